@@ -1,4 +1,4 @@
--- The kinds of a node's children, as its tree has them.
+-- The kinds of a node's children, as calls on the tree find them.
 use Rattle.std.proofs.Common.{◌≡◌, ℕ, zero, suc, ◌+◌, ◌-◌, Bool, true, false, cond, List, [], ◌∷◌, ◌++◌, length, map, Option, Some, refl, ap, sym, ◌∙◌, arith}
 use Rattle.std.{proofs.lemmas.Bool.and_parts, specs.Prelude.{if◌then◌else◌, is_some, slice_get, filter, find}}
 use Rattle.{rnix_kinds.specs.{declared.kinds.SyntaxKind.SyntaxKind, SyntaxKind.{is_token, is_trivia}}, rnix_green.specs.Equality.{same_kind, same_kind-decides}}
@@ -21,7 +21,7 @@ tops empty = []
 tops (leaf k t f) = (false, k) ∷ tops f
 tops (node k c f) = (true, k) ∷ tops f
 
--- the elements of a forest's trees are of their kinds
+-- the roots of a forest's trees, as the tree has them, are nodes and tokens of their kinds
 row_sights : (t : Tree) (n s : ℕ) (p : Option ℕ) (f : Forest) → HasItemsAt t n (items_from n s p f) → map sight_of (map (spot_at t) (tree_numbers n f)) ≡ tops f
 row_sights t n s p empty h = refl
 row_sights t n s p (leaf k u f) h =
@@ -41,7 +41,7 @@ row_sights t n s p (node k c f) h =
     ap (λ (x : Item). (x.is_node, x.kind) ∷ map sight_of (map (spot_at t) (tree_numbers (n + 1 + element_count c) f))) own
     ∙ ap (λ x. (true, k) ∷ x) (row_sights t (n + 1 + element_count c) (s + length (text_of c)) p f there)
 
--- a node with its row, where the part of the tree at it is given
+-- a node with its row, from the tree's part at the node
 pub record NodeIn (n : Located) (part : Forest) : Type 0 where
   pub kind : SyntaxKind
   pub children : Forest
@@ -80,7 +80,7 @@ node_in n r w there =
           tokens = (and_parts (has_tokens_alone c) true w).0;
         }
 
--- the kinds of tokens, and of nodes
+-- the kinds of the tokens among these; then those of the nodes
 abbrev leaves : List Sight → List SyntaxKind
 leaves [] = []
 leaves (s ∷ ss) = if s.0 then leaves ss else s.1 ∷ leaves ss
@@ -89,7 +89,7 @@ abbrev branches : List Sight → List SyntaxKind
 branches [] = []
 branches (s ∷ ss) = if s.0 then s.1 ∷ branches ss else branches ss
 
--- one more element of a set, or not
+-- one more member of a set, or not
 same_first : {A B : Type 0} (w : Bool) (a : A) (b : B) (x : Option A) (y : Option B) → is_some x ≡ is_some y →
     is_some (cond w (Some a) x) ≡ is_some (cond w (Some b) y)
 same_first true a b x y e = refl
@@ -125,7 +125,7 @@ pub record AreItems (test : SyntaxKind → Bool) : Type 0 where
 abbrev pub AreNodes : (SyntaxKind → Bool) → Type 0
 AreNodes test = (k : SyntaxKind) → test k ≡ true → is_token k ≡ false
 
--- what is in no such set
+-- a kind that does not pass a test fails it
 pub none_if : (test : SyntaxKind → Bool) (k : SyntaxKind) → (test k ≡ true → ⊥) → test k ≡ false
 none_if test k h = test_cases (test k) refl
   where
@@ -176,7 +176,7 @@ branches_items test a (node k c f) w =
     same_length (test k) k k (filter test (branches (tops f))) (filter test (item_kinds f))
     (branches_items test a f (and_parts (has_tokens_alone c) (has_tokens_alone f) w).1)
 
--- lists as long as one another have the same numbers
+-- lists of equal length have elements at the same indices
 get_alike : {A B : Type 0} (xs : List A) (ys : List B) (n : ℕ) → length xs ≡ length ys → is_some (slice_get xs n) ≡ is_some (slice_get ys n)
 get_alike [] [] n e = refl
 get_alike [] (y ∷ ys) n e = absurd (omega (arith, e))
@@ -184,7 +184,7 @@ get_alike (x ∷ xs) [] n e = absurd (omega (arith, e))
 get_alike (x ∷ xs) (y ∷ ys) zero e = refl
 get_alike (x ∷ xs) (y ∷ ys) (suc n) e = get_alike xs ys n (omega (arith, e))
 
--- what is right below a node is what its row has
+-- the children of a node have the kinds in its row
 pub record Sees (n : Located) (ks : List SyntaxKind) : Type 0 where
   pub tokens : (test : SyntaxKind → Bool) → AreItems test → is_some (token_of test n) ≡ is_some (find test ks)
   pub nodes : (test : SyntaxKind → Bool) → AreNodes test → (number : ℕ) → is_some (child_of test number n) ≡ is_some (slice_get (filter test ks) number)

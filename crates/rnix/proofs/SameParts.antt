@@ -1,4 +1,4 @@
--- Parts that are seen as themselves.
+-- Contracts see parts as the parts themselves.
 use Rattle.std.{proofs.Common.{◌≡◌, ◌∙◌, List, [], ◌∷◌, Vec, Result, Ok, Err, refl, sym, ap, map}, specs.Prelude.IfOk}
 use Rattle.rnix_base.specs.{declared.parts.InterpolPart.{InterpolPart, TheVariants.{Literal, Interpolation}}, Parts.part_of}
 

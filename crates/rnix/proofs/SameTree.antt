@@ -1,4 +1,4 @@
--- What is selected among the children of a node is in the node's tree.
+-- The selected children of a node are in the node's tree.
 use Rattle.std.proofs.{Common.{◌≡◌, ℕ, Bool, true, false, List, [], ◌∷◌, map, Option, Some, None, refl, subst}, lemmas.List.Elements.{All-nil, All-cons}}
 use Rattle.std.{proofs.lemmas.{List.Elements.All-filter, Option.{slice_get_within, get_or_from_slice_get}}, specs.Prelude.{if◌then◌else◌, All, IfSome}}
 use Rattle.{rnix_kinds.specs.declared.kinds.SyntaxKind.SyntaxKind, rnix_green.specs.{Tree.{Tree, Located, item}, Walk.{spot_at, nodes_in}}}
@@ -26,6 +26,6 @@ some_stays n kinds number (Some c) e =
     subst (IsIn n.tree) (get_or_from_slice_get (nodes_of kinds n) number c c e)
     (children_stay n kinds number c (slice_get_within (nodes_of kinds n) number c e))
 
--- the child of a number
+-- the selected child with a number
 pub child_stays : (n : Located) (kinds : SyntaxKind → Bool) (number : ℕ) → IfSome (child_of kinds number n) (λ c. c.tree ≡ n.tree)
 child_stays n kinds number = some_stays n kinds number _ refl

@@ -1,4 +1,4 @@
--- What parts a node has whose row is seen.
+-- The parts of a node whose children are its row.
 use Rattle.std.proofs.{Common.{◌≡◌, ℕ, suc, Bool, true, false, cond, List, [], ◌∷◌, Option, Some, None, refl, ap, sym, ◌∙◌}, lemmas.Bool.and_parts}
 use Rattle.std.specs.Prelude.{◌&&◌, ◌||◌, if◌then◌else◌, not, is_some, IsSome, slice_get, filter, find, option_map}
 use Rattle.rnix_kinds.{specs.{declared.kinds.SyntaxKind.SyntaxKind, SyntaxKind.{is_token, is_trivia}}, proofs.AllKinds.implied}
@@ -40,7 +40,7 @@ path_items = record {
   item = λ j h. not_if (is_trivia j) (implied is_path_token (λ j. if is_trivia j then false else true) refl j h);
 }
 
--- a token that stands for an operator is found as one
+-- an operator is found by its token
 operator_found : {A : Type 0} (operator : SyntaxKind → Option A) (ts : List Located) → is_some (find (has_kind (λ kind. is_some (operator kind))) ts) ≡ true
     → is_some (first_operator operator ts) ≡ true
 operator_found operator [] h = absurd (true_is_not_false (sym h))
@@ -74,7 +74,7 @@ both_or_none true false h = absurd (true_is_not_false (sym h))
 both_or_none false true h = absurd (true_is_not_false (sym h))
 both_or_none false false h = refl
 
--- a row asks for a token, or for a node
+-- every row of the kind has the token; the next test is for nodes
 abbrev asks_token : SyntaxKind → SyntaxKind → Bool
 asks_token kind x = is_token x && (not (is_trivia x) && row_has (same_kind x) 1 kind)
 
@@ -85,13 +85,13 @@ not_true : (w : Bool) → not w ≡ true → w ≡ false
 not_true false h = refl
 not_true true h = absurd (true_is_not_false (sym h))
 
--- a node with the kinds of its row, as they are seen right below it
+-- the children of a node are a row of its kind
 pub record RowSeen (kind : SyntaxKind) (n : Located) : Type 0 where
   pub kinds : List SyntaxKind
   pub sees : Sees n kinds
   pub row : is_row kind kinds ≡ true
 
--- each part that a node's kind asks for is there
+-- each part that every row of the kind has is found
 pub token : {kind : SyntaxKind} {n : Located} → RowSeen kind n → (x : SyntaxKind) → asks_token kind x ≡ true → HasToken x n
 token {kind} h x asked =
     let a = and_parts (is_token x) (not (is_trivia x) && row_has (same_kind x) 1 kind) asked in
@@ -106,7 +106,7 @@ child {kind} h x asked =
     let a = and_parts (not (is_token x)) (row_has (same_kind x) 1 kind) asked in
     h.sees.nodes (same_kind x) (exact_nodes x (not_true (is_token x) a.0)) 0 ∙ row_nth kind h.kinds (same_kind x) 0 a.1 h.row
 
--- a function's parameter, the operators, a path's content and a literal's token are there
+-- a function's parameter, operators, a path's content and a literal's token are found
 pub lambda_param : {n : Located} → RowSeen k.NODE_LAMBDA n → IsSome (child_of is_param 0 n)
 lambda_param h = h.sees.nodes is_param param_nodes 0 ∙ row_nth k.NODE_LAMBDA h.kinds is_param 0 refl h.row
 
@@ -131,7 +131,7 @@ literal_kind {n} h =
     ∙ ap (λ v. is_some (find (same_kind k.TOKEN_FLOAT) h.kinds) || (is_some (find (same_kind k.TOKEN_INTEGER) h.kinds) || v)) (seen k.TOKEN_URI refl refl)
     ∙ row_is k.NODE_LITERAL has_literal refl h.kinds h.row
 
--- a default comes after its sign
+-- a default is found exactly if its sign is
 default : {kind : SyntaxKind} {n : Located} → RowSeen kind n → (x : SyntaxKind) → is_token x ≡ true → is_trivia x ≡ false
     → ((ks : List SyntaxKind) → is_row kind ks ≡ true → are_together x ks ≡ true) → AreTogether (token_of (same_kind x) n) (child_of is_expr 1 n)
 default h x t i together =

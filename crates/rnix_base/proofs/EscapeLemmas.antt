@@ -49,7 +49,7 @@ pub unescaped-nil : (m : Bool) → unescaped m [] ≡ []
 unfolding values
 unescaped-nil m = refl
 
--- where no piece fits
+-- a text that begins with no piece has an empty value
 pub unescaped_ends : (m : Bool) (text : List ℕ) → first_piece m text ≡ None → unescaped m text ≡ []
 unfolding values
 unescaped_ends m [] e = refl
@@ -65,7 +65,7 @@ values_inside m zero text = refl
 values_inside m (suc n) [] = refl
 values_inside m (suc n) (b ∷ text) = values_inside m n text
 
--- after a piece
+-- the value of a text is that of its first piece, and that of the rest
 pub unescaped_step : (m : Bool) (b : ℕ) (text : List ℕ) (p : Piece) → first_piece m (b ∷ text) ≡ Some p → unescaped m (b ∷ text) ≡ p.value
     ++ unescaped m (drop (p.len - 1) text)
 unescaped_step m b text p e = values_step m b text p e ∙ ap (λ t. p.value ++ t) (values_inside m (p.len - 1) text)
@@ -81,7 +81,7 @@ unescaped_high m [] text h = refl
 unescaped_high m (b ∷ bytes) text h = unescaped_step m b (bytes ++ text) _ (high_piece m b (bytes ++ text) (h 0 (omega arith)))
     ∙ ap (λ t. b ∷ t) (unescaped_high m bytes text (λ k i. h (suc k) (omega arith)))
 
--- a plain byte stands for itself, and so do many
+-- a plain byte stands for itself, and so does a run of them
 plain_piece : (m : Bool) (b : ℕ) (text : List ℕ) → is_plain m b ≡ true → first_piece m (b ∷ text) ≡ Some record { len = 1; value = b ∷ [] }
 plain_piece true b text h = grind (arith, nat_tests)
 plain_piece false b text h = grind (arith, nat_tests)
@@ -92,7 +92,7 @@ unescaped_plain m [] text h = refl
 unescaped_plain m (b ∷ bytes) text h = unescaped_step m b (bytes ++ text) _ (plain_piece m b (bytes ++ text) (h 0 (omega arith)))
     ∙ ap (λ t. b ∷ t) (unescaped_plain m bytes text (λ k i. h (suc k) (omega arith)))
 
--- a byte that means itself and the plain bytes after it
+-- a byte that stands for itself, and the plain bytes after it
 pub run_begins : (m : Bool) (b : ℕ) (text value rest : List ℕ) → first_piece m (b ∷ text) ≡ itself (b ∷ text)
     → value ≡ b ∷ take (prefix_len (is_plain m) text) text → rest ≡ drop (prefix_len (is_plain m) text) text → Begins m (b ∷ text) value rest
 run_begins m b text value rest free e f =
@@ -108,7 +108,7 @@ run_begins m b text value rest free e f =
       shorter = omega (arith, ap length f, length-drop n text);
     }
 
--- such a run ends before a byte below 128, or with the text
+-- such a run ends at a character boundary
 pub run_boundary : (m : Bool) (b : ℕ) (text : List ℕ) → IsCharBoundary (b ∷ text) (suc (prefix_len (is_plain m) text))
 run_boundary m b text =
     let n = prefix_len (is_plain m) text in
@@ -129,7 +129,7 @@ first_unescaped : (m : Bool) (first : ℕ) (more rest : List ℕ) → ((k : ℕ)
     ∷ (more ++ unescaped m rest)
 first_unescaped m first more rest high e = unescaped_step m first (more ++ rest) _ e ∙ ap (λ t. first ∷ t) (unescaped_high m more rest high)
 
--- a character stands for itself where its first byte does
+-- a character stands for itself if its first byte does
 pub character_begins : (m : Bool) (text value rest : List ℕ) → IsCharacter value → text ≡ value ++ rest → first_piece m text ≡ itself text
     → Begins m text value rest
 character_begins m text value rest one e free =
@@ -139,7 +139,7 @@ character_begins m text value rest one e free =
       shorter = omega (arith, ap length whole, length-append one.more rest);
     }
 
--- after a backslash a character stands for itself, unless it is one of three letters
+-- after a backslash a character stands for itself, unless it is `n`, `r` or `t`
 pub character_escapes : (text value rest : List ℕ) → IsCharacter value → text ≡ value ++ rest → value ≢ codes "n" → value ≢ codes "r" → value ≢ codes "t"
     → Escapes text value rest
 character_escapes text value rest one e n r t =
@@ -152,7 +152,7 @@ character_escapes text value rest one e n r t =
       shorter = omega (arith, ap length whole, length-append one.more rest);
     }
 
--- a letter that stands for a control character after a backslash
+-- after a backslash each of these letters stands for a control character
 pub letter_escapes : (b : ℕ) (text value rest : List ℕ) → text ≡ b ∷ rest → value ≡ escaped b ∷ [] → Escapes text value rest
 letter_escapes b text value rest e v = record {
   split = λ m. rw (e, v) refl;
@@ -170,7 +170,7 @@ at_byte b i text some e =
 suc-both : (i n : ℕ) → suc i + suc n ≡ i + suc (suc n)
 suc-both i n = omega arith
 
--- bytes that are in a text are a part of it
+-- a text that has bytes at a position is what precedes them, the bytes, and what follows
 occurrence_splits : (bytes : List ℕ) (i : ℕ) (text : List ℕ) → list_all (nat_lt 0) bytes ≡ true → occurs_at bytes i text ≡ true → drop i text ≡ bytes
     ++ drop (i + length bytes) text
 occurrence_splits [] i text some e = ap (λ k. drop k text) (omega arith)
@@ -180,7 +180,7 @@ occurrence_splits (b ∷ c ∷ bytes) i text some e =
     ∙ ap (λ t. b ∷ t) (ap (λ k. drop k text) (add-one i) ∙ occurrence_splits (c ∷ bytes) (suc i) text (and_parts _ _ some).1 (and_parts _ _ e).1
     ∙ ap (λ k. (c ∷ bytes) ++ drop k text) (suc-both i (length bytes)))
 
--- a text that does not begin with these bytes
+-- a text that is not these bytes and a rest does not begin with them
 pub not_begun : (bytes text : List ℕ) → list_all (nat_lt 0) bytes ≡ true → ((rest : List ℕ) → text ≢ bytes ++ rest) → begins bytes text ≡ false
 not_begun bytes text some none =
     elim (begins bytes text) as (λ b. begins bytes text ≡ b → begins bytes text ≡ false) [
@@ -188,11 +188,11 @@ not_begun bytes text some none =
       | false ↦ λ e. e
     ] refl
 
--- what a text that begins with these bytes has after them
+-- a text that begins with these bytes has a rest after them
 pub strip_gives : (bytes text rest : List ℕ) → StripsPrefix (FindsTextPrefix bytes) text rest → text ≡ bytes ++ rest
 strip_gives bytes text rest h = h.1.1 ∙ ap (λ t. bytes ++ t) (sym h.2)
 
--- after two primes
+-- a text that begins with `'''` begins with an escape of `''`
 pub primes_begin : (text rest : List ℕ) → text ≡ codes "'''" ++ rest → Begins true text (codes "''") rest
 primes_begin text rest e = record {
   split = rw e (unescaped_step true 39 (39 ∷ 39 ∷ rest) _ refl);
@@ -205,7 +205,7 @@ dollar_begins text rest e = record {
   shorter = omega (arith, ap length e);
 }
 
--- a backslash and what follows it, in either form
+-- what begins an escape of any character: `''\` in a string in `''`, otherwise a backslash
 abbrev pub opener : Bool → List ℕ
 opener true = codes "''\\"
 opener false = codes "\\"
@@ -238,7 +238,7 @@ pub char_begins : (m : Bool) (text : List ℕ) (r : Option (Bor (List ℕ) × Bo
 char_begins m text None free h = rw h (unescaped-nil m)
 char_begins m text (Some p) free h = character_begins m text p.0.now p.1.now (is_character h.0 p.0.now h.1) h.2 free
 
--- what the tests of a text between `''` tell
+-- what the tests of a text in `''` decide
 pub primes_end : (text : List ℕ) → LacksTextAt (codes "'''") text 0 → LacksTextAt (codes "''$") text 0 → LacksTextAt (codes "''\\") text 0
     → HasPrefixMatch (FindsTextPrefix (codes "''")) text → unescaped true text ≡ []
 primes_end text a b c h =
@@ -249,7 +249,7 @@ pub primes_free : (text : List ℕ) → LacksTextAt (codes "'''") text 0 → Lac
     → LacksTextAt (codes "''") text 0 → first_piece true text ≡ itself text
 primes_free text a b c d = rw (not_begun _ text refl a, not_begun _ text refl b, not_begun _ text refl c, not_begun _ text refl d) refl
 
--- and of one between `"`
+-- what the test of a text in `"` decides
 pub quote_end : (text : List ℕ) → HasPrefixMatch (FindsTextPrefix (codes "\"")) text → unescaped false text ≡ []
 quote_end text h =
     let one : begins (codes "\"") text ≡ true = rw h.1.1 refl in

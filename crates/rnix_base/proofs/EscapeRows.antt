@@ -1,7 +1,7 @@
--- What certain texts stand for.
+-- The values of certain texts inside strings.
 use Rattle.{std.proofs.Common.{◌≡◌, true, false, refl, codes}, rnix_base.specs.Escapes.{unescaped, values}}
 
--- escapes between `"`
+-- escapes in `"`
 quotes : unescaped false (codes "\\\"Hello\\\"") ≡ codes "\"Hello\""
 unfolding values
 quotes = refl
@@ -10,7 +10,7 @@ line_feed : unescaped false (codes "Hello\\n\\\"World\\\" :D") ≡ codes "Hello\
 unfolding values
 line_feed = refl
 
--- escapes between `''`
+-- escapes in `''`
 primes : unescaped true (codes "Hello''\\n'''World''' :D") ≡ codes "Hello\n''World'' :D"
 unfolding values
 primes = refl
@@ -19,12 +19,12 @@ plain_quotes : unescaped true (codes "\"Hello\"") ≡ codes "\"Hello\""
 unfolding values
 plain_quotes = refl
 
--- a dollar after two primes
+-- a `$` after `''`
 dollar : unescaped true (codes "a''${b}'''${c}") ≡ codes "a${b}''${c}"
 unfolding values
 dollar = refl
 
--- where no piece fits
+-- a text ends where no piece begins
 ended_quote : unescaped false (codes "a\\tb\"c") ≡ codes "a\tb"
 unfolding values
 ended_quote = refl

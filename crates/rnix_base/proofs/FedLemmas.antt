@@ -1,4 +1,4 @@
--- Carriage returns of a text between `"`, character by character.
+-- Carriage returns of a text in `"`, character by character.
 use Rattle.std.proofs.Common.{◌≡◌, ◌≢◌, ◌<◌, ◌≤◌, ◌++◌, ◌∙◌, inl, inr, ℕ, suc, Bool, true, false, not, ◌&&◌, ◌==◌, List, [], ◌∷◌, Option, Some, None, refl, sym, ap, length, get_or, arith}
 use Rattle.std.proofs.{Common.append_assoc, lemmas.{Bool.{cases_lt, or_parts, Decides.nat_tests}, List.{append-nil, nil_from_length}, Str.{encode_ascii, inside_one}}}
 use Rattle.std.specs.List.{list_any}
@@ -9,7 +9,7 @@ pub fed-nil : (e : Bool) → fed e [] ≡ []
 unfolding fed
 fed-nil e = refl
 
--- what a byte does
+-- an escaped byte stays
 fed_escaped : (b : ℕ) (text : List ℕ) → fed true (b ∷ text) ≡ b ∷ fed false text
 unfolding fed
 fed_escaped b text = refl
@@ -19,7 +19,7 @@ fed_byte : (b : ℕ) (text : List ℕ) → fed false (b ∷ text) ≡
 unfolding fed
 fed_byte b text = refl
 
--- a byte that is no carriage return, or is escaped
+-- a byte that is no carriage return, or is escaped, stays
 fed_other : (e : Bool) (b : ℕ) (text : List ℕ) → (b == 13 && not e) ≡ false → fed e (b ∷ text) ≡ b ∷ fed (b == 92 && not e) text
 fed_other true b text h = fed_escaped b text ∙ ap (λ x. b ∷ fed x text) (and_false (b == 92)) where
   and_false : (x : Bool) → false ≡ (x && false)
@@ -33,11 +33,11 @@ fed_other false b text h =
       and_true true = refl
       and_true false = refl
 
--- a carriage return
+-- a carriage return becomes a line feed, together with a line feed after it
 pub fed_return : (text : List ℕ) → fed false (13 ∷ text) ≡ (if slice_index text 0 == 10 then fed false text else 10 ∷ fed false text)
 fed_return text = fed_byte 13 text
 
--- bytes of 128 and above
+-- bytes of 128 and above stay
 fed_high : (bytes text : List ℕ) → ((k : ℕ) → k < length bytes → 128 ≤ get_or bytes k 0) → fed false (bytes ++ text) ≡ bytes ++ fed false text
 fed_high [] text high = refl
 fed_high (b ∷ bytes) text high =
@@ -46,7 +46,7 @@ fed_high (b ∷ bytes) text high =
     fed_other false b (bytes ++ text) (grind (arith, nat_tests, first)) ∙ ap (λ x. b ∷ fed x (bytes ++ text)) slash
     ∙ ap (λ t. b ∷ t) (fed_high bytes text (λ k i. high (suc k) (omega arith)))
 
--- a character that is no carriage return, or is escaped
+-- a character that is no carriage return, or is escaped, stays
 fed_long : (e : Bool) (c : ℕ) (letter text : List ℕ) → IsCharacter letter → 128 ≤ c → letter ≡ encode_utf8 c → 128 ≤ get_or letter 0 0
     → fed e (letter ++ text) ≡ letter ++ fed false text
 fed_long e c letter text one big is first =
@@ -61,7 +61,7 @@ fed_long e c letter text one big is first =
     other n low h true = grind (arith, nat_tests)
     other n low h false = grind (arith, nat_tests)
 
--- the first byte of a character of 128 and above is such a byte
+-- the first byte of a character of 128 and above is 128 or above
 high_first : (c : ℕ) → 128 ≤ c → 128 ≤ get_or (encode_utf8 c) 0 0
 high_first c big =
     let one = is_character c (encode_utf8 c) refl in
@@ -77,7 +77,7 @@ high_first c big =
     ascii_is c first more e low =
         inside_one c [] (first ∷ more) 0 (sym e ∙ sym (append-nil (encode_utf8 c))) (rw e (omega arith)) low
 
--- what one more character does
+-- one more character
 pub fed_character : (e : Bool) (c : ℕ) (text : List ℕ) → fed e (encode_utf8 c ++ text) ≡ fed_letter c text e ++ fed (c == 92 && not e) text
 fed_character e c text = elim (cases_lt c 128) [
   | inl low ↦ ap (λ l. fed e (l ++ text)) (encode_ascii c low) ∙ by_return (c == 13 && not e) refl low
@@ -117,7 +117,7 @@ fed_character e c text = elim (cases_lt c 128) [
             rest_by false f = rw (is) (fed_return text ∙ ap (λ x. if x then fed false text else 10 ∷ fed false text) f
                 ∙ ap (λ x. (if x then [] else 10 ∷ []) ++ fed false text) (sym f))
 
--- a text without carriage returns
+-- a text without carriage returns stays
 pub no_returns : (e : Bool) (text : List ℕ) → list_any (λ b. b == 13) text ≡ false → fed e text ≡ text
 no_returns e [] h = fed-nil e
 no_returns e (b ∷ text) h =
@@ -131,7 +131,7 @@ fed_kept text made rest more new e c h step is =
     h ∙ ap (λ t. made ++ fed e t) step ∙ ap (λ t. made ++ t) (fed_character e c more)
     ∙ sym (append_assoc made (fed_letter c more e) (fed (c == 92 && not e) more)) ∙ ap (λ t. t ++ fed (c == 92 && not e) more) (sym is)
 
--- all are written
+-- all characters are written
 pub all_fed : (text made rest : List ℕ) (e : Bool) → fed false text ≡ made ++ fed e rest → length rest ≡ 0 → made ≡ fed false text
 all_fed text made rest e h none =
     sym (h ∙ ap (λ t. made ++ fed e t) (nil_from_length rest none) ∙ ap (λ t. made ++ t) (fed-nil e) ∙ append-nil made)

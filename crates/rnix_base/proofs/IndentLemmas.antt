@@ -1,13 +1,13 @@
--- What follows on a line that has text.
+-- The rest of a line that has text does not affect the indentation.
 use Rattle.std.proofs.Common.{◌≡◌, ◌+◌, ◌∙◌, ℕ, suc, List, [], ◌∷◌, Bool, true, false, Some, None, refl, ap, sym, drop, arith}
 use Rattle.std.{proofs.lemmas.Bool.Decides.nat_tests, specs.{List.prefix_len, Prelude.{cond, if◌then◌else◌}}}
 use Rattle.rnix_base.specs.{declared.indent.Indent.Indent, Normal.is_byte, Indent.{indent_after, indent_behind, is_inside_line}}
 
--- the state of a line that has text
+-- the state after text on a line
 abbrev has_text : ℕ → Indent
 has_text least = record { least = least; spaces = None }
 
--- no byte of the line changes it
+-- no byte of the line changes this state
 unchanged : (least b : ℕ) → is_inside_line b ≡ true → indent_after (has_text least) (Some b) ≡ has_text least
 unchanged least b h =
     let other : is_byte 10 (Some b) ≡ false = grind (arith, nat_tests) in
@@ -30,7 +30,7 @@ line_passed least (b ∷ bytes) = step (is_inside_line b) refl (line_passed leas
         one = omega arith
     step false e more = sym (ap (λ x. indent_behind (has_text least) (drop (cond x (1 + prefix_len is_inside_line bytes) 0) (b ∷ bytes))) e)
 
--- so the rest of the line may be passed over
+-- so the rest of the line may be skipped
 pub passes_line : (indent : Indent) (bytes : List ℕ) → indent.spaces ≡ None
     → indent_behind indent bytes ≡ indent_behind indent (drop (prefix_len is_inside_line bytes) bytes)
 passes_line indent bytes e =

@@ -1,17 +1,17 @@
--- The least indentation of a list of symbols, one by one.
+-- The least indentation of a list of symbols, symbol by symbol.
 use Rattle.std.proofs.Common.{◌≡◌, ◌+◌, ◌≤◌, ◌++◌, ◌∙◌, ℕ, suc, min, Bool, true, false, not, cond, ◌||◌, nat_lt, List, [], ◌∷◌, Option, Some, None, refl, sym}
 use Rattle.std.{proofs.{Common.{ap, map, arith}, lemmas.Bool.Decides.nat_tests}, specs.{Prelude.if◌then◌else◌, List.fold}}
 use Rattle.rnix_base.specs.{declared.{indent.Indent.Indent, parts.InterpolPart.TheVariants.{Literal, Interpolation}}, Normal.{Parts, Symbol, symbols, is_gap}}
 use Rattle.rnix_base.specs.{Normal.{is_feed, before_line, lines, indentation, has_text, least_indentation}, Indent.{indent_after, indent_behind, indent_of}}
 use Rattle.rnix_base.{specs.Indent.no_indent, proofs.SymbolLineLemmas.{lines_feed, lines_more}}
 
--- the least indentation of lines of which the first is read up to here: it has so many spaces, or text
+-- the least indentation of lines, of the first of which some spaces have been read, or text
 unfoldable pub least_from : Option ℕ → List (List Symbol) → ℕ
 least_from spaces [] = 1000000
 least_from None (line ∷ ls) = least_indentation ls
 least_from (Some n) (line ∷ ls) = if has_text line then min (n + indentation line) (least_indentation ls) else least_indentation ls
 
--- after the symbols of a list
+-- the state after the symbols of a list
 abbrev pub indent_after_all : Indent → List Symbol → Indent
 indent_after_all = fold (λ indent s. indent_after indent s.byte)
 
@@ -30,7 +30,7 @@ from_zero (line ∷ ls) = ap (λ n. if has_text line then min n (least_indentati
   zero_plus : (n : ℕ) → 0 + n ≡ n
   zero_plus n = omega arith
 
--- after a line feed
+-- a line feed begins the next line
 from_line : (spaces : Option ℕ) (s : Symbol) (ls : List (List Symbol)) → is_feed s ≡ true → least_from spaces ((s ∷ []) ∷ ls) ≡ least_indentation ls
 unfolding least_from
 from_line None s ls e = refl
@@ -42,7 +42,7 @@ from_line (Some n) s ls e = ap (λ t. if t then min (n + indentation (s ∷ []))
       or_true true = refl
       or_true false = refl
 
--- after text
+-- after text, the rest of the line does not count
 from_none : (s : Symbol) (ls : List (List Symbol)) → least_from None (before_line s ls) ≡ least_from None ls
 unfolding least_from least_indentation
 from_none s [] = refl
@@ -87,7 +87,7 @@ from_text n s (line ∷ ls) f g =
     ap (λ t. if t then min (n + indentation (s ∷ line)) (least_indentation ls) else least_indentation ls) (some_text s line f g)
     ∙ ap (λ k. min (n + k) (least_indentation ls)) (no_indentation s line g) ∙ plus_zero n (least_indentation ls)
 
--- what one symbol does
+-- the state after one symbol
 after_feed : (indent : Indent) (s : Symbol) → is_feed s ≡ true → indent_after indent s.byte ≡ record { least = indent.least; spaces = Some 0 }
 after_feed indent s e = rw e refl
 
@@ -139,7 +139,7 @@ least-list list = list_least list no_indent (omega arith) ∙ ap (min 1000000) (
       limited : (x : ℕ) → x ≤ 1000000 → min 1000000 x ≡ x
       limited x h = omega arith
 
--- and part by part
+-- the state after the symbols of a text
 after_text_symbols : (n : ℕ) (text : List ℕ) (list : List Symbol) (indent : Indent)
     → indent_after_all indent (map (λ b. record { part = n; byte = Some b }) text ++ list) ≡ indent_after_all (indent_behind indent text) list
 after_text_symbols n [] list indent = refl

@@ -1,10 +1,10 @@
--- The letters of a text in `''`: bytes, and marks for escapes.
+-- The letters of a text in `''`: bytes, and escapes as marks.
 use Rattle.std.proofs.Common.{◌≡◌, ◌+◌, ◌-◌, ◌<◌, ◌≤◌, ◌++◌, ◌∙◌, ℕ, zero, suc, Bool, true, false, ◌==◌, ◌&&◌, nat_lt, List, [], ◌∷◌, Option, Some, None, refl, sym, ap}
 use Rattle.std.{proofs.{Common.{length, drop, arith, length-drop}, lemmas.Bool.Decides.nat_tests}, specs.Prelude.{if◌then◌else◌, slice_index, codes}}
 use Rattle.rnix_kinds.specs.Lexical.Texts.{begins}
 use Rattle.rnix_base.specs.{Escapes.{Piece, indented_piece, backslash, itself}, Value.{escape_len, escape_mark, marked, without_escapes, IsLetter}}
 
--- no letters
+-- an empty text has no letters
 pub without_escapes-nil : without_escapes [] ≡ []
 unfolding marked
 without_escapes-nil = refl
@@ -20,7 +20,7 @@ marked_inside zero text = refl
 marked_inside (suc n) [] = refl
 marked_inside (suc n) (b ∷ text) = marked_inside n text
 
--- a byte that is a letter
+-- a byte that is no escape is a letter
 pub byte_letter : (text : List ℕ) (b : ℕ) (rest : List ℕ) → text ≡ b ∷ rest → escape_len text ≡ 0 → IsLetter text b rest
 byte_letter text b rest e none =
     let test : (escape_len (b ∷ rest) == 0) ≡ true = grind (arith, nat_tests, ap escape_len e, none) in
@@ -30,7 +30,7 @@ byte_letter text b rest e none =
       shorter = omega (arith, ap length e);
     }
 
--- an escape that is one
+-- an escape is a letter
 pub escape_letter : (text : List ℕ) (b : ℕ) (more rest : List ℕ) (len : ℕ) → text ≡ b ∷ more → len ≡ escape_len text → 0 < len → len ≤ length text
     → rest ≡ drop len text → IsLetter text escape_mark rest
 escape_letter text b more rest len e is some within behind =

@@ -25,7 +25,7 @@ pub quoted_next : {I : Type 0} (rest more : List (InterpolPart (Bor (List ℕ)) 
     → quoted_parts (borrowed rest) ≡ Interpolation i ∷ [] ++ quoted_parts (borrowed more)
 quoted_next rest more part i e h = ap (λ r. quoted_parts (borrowed r)) (e ∙ ap (λ p. p ∷ more) h)
 
--- one more part is kept
+-- one more part is added
 pub pushed : {I Z : Type 0} (items more : List (InterpolPart (String Z) I)) (part : InterpolPart (String Z) I) (value : InterpolPart (List ℕ) I) → more ≡ items
     ++ part ∷ [] → with_text string_bytes part ≡ value → owned more ≡ owned items ++ value ∷ []
 pushed items more part value e h = ap owned e ∙ map_push (with_text string_bytes) items part ∙ ap (λ v. owned items ++ v ∷ []) h
@@ -40,7 +40,7 @@ pub last_before_end : {I : Type 0} (more : List (InterpolPart (Bor (List ℕ)) I
 last_before_end [] text e = absurd (e refl)
 last_before_end (part ∷ more) text e = refl
 
--- all parts are read
+-- all parts have been read
 pub all_read : {I : Type 0} (n remaining : ℕ) (done whole : Parts I) (rest : List (InterpolPart (Bor (List ℕ)) I)) → whole ≡ done
     ++ indented_from n remaining (borrowed rest) → length rest ≡ 0 → done ≡ whole
 unfolding indented_from

@@ -1,4 +1,4 @@
--- The first part of a string, opened.
+-- The first part of a string in `''`, without its first line if this is blank.
 use Rattle.std.{proofs.Common.{◌≡◌, ℕ, true, false, ◌==◌, List, [], ◌∷◌, Some, refl, sym, length, set}, specs.List.slice_get}
 use Rattle.rnix_base.specs.{declared.parts.InterpolPart.{InterpolPart, TheVariants.Literal}, Normal.{Parts, borrowed, opens_blank, behind_blank}}
 use Rattle.rnix_base.specs.Normal.{literal_if_some, opened}

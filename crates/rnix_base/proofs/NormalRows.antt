@@ -12,12 +12,12 @@ blank_line : indented_parts {I = ℕ} (Literal (codes "\n  ") ∷ []) ≡ (Liter
 unfolding values symbols lines least_indentation part_text with_texts closed
 blank_line = refl
 
--- lines lose what they begin with
+-- lines lose their indentation
 two_lines : indented_parts {I = ℕ} (Literal (codes "\n  hello\n  world") ∷ []) ≡ (Literal (codes "hello\nworld") ∷ [])
 unfolding values symbols lines least_indentation part_text with_texts closed
 two_lines = refl
 
--- a space that stays
+-- a space after text stays
 last_space : indented_parts {I = ℕ} (Literal (codes "hello ") ∷ []) ≡ (Literal (codes "hello ") ∷ [])
 unfolding values symbols lines least_indentation part_text with_texts closed
 last_space = refl
@@ -43,7 +43,7 @@ interpolation_first : indented_parts {I = ℕ} (Literal (codes "\n  ") ∷ Inter
 unfolding values symbols lines least_indentation part_text with_texts closed
 interpolation_first = refl
 
--- a first line that is not blank
+-- a first line that is not blank counts
 no_first_feed : indented_parts {I = ℕ} (Literal (codes "  a\n    b") ∷ []) ≡ (Literal (codes "a\n  b") ∷ [])
 unfolding values symbols lines least_indentation part_text with_texts closed
 no_first_feed = refl
@@ -87,7 +87,7 @@ long_source =
     ++ (codes "                    ''${ interpolation was escaped }\n                    two single quotes: '''\n"
     ++ codes "                    three single quotes: ''''\n                "))
 
--- and what it stands for
+-- and its value
 abbrev long_value : List ℕ
 long_value =
     codes "    \n          \nThis is a multiline string :D\n  indented by two\n\\'\\'\\'\\'\\\n"

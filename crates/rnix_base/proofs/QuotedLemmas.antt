@@ -1,4 +1,4 @@
--- What is written between quotes reads back as the value, and ends at the closing quote.
+-- What is written between quotes has the value that was written, and ends at the closing quote.
 use Rattle.std.proofs.Common.{◌≡◌, ◌≢◌, ◌⊎◌, inl, inr, ℕ, ◌+◌, Bool, true, false, ◌==◌, List, [], ◌∷◌, ◌++◌, refl, sym, ap, ◌∙◌, codes, length, arith}
 use Rattle.{std.proofs.lemmas.Bool.Decides.nat_tests, rnix_kinds.specs.Lexical.Strings.content_len}
 use Rattle.rnix_kinds.proofs.LexicalLemmas.StringsLemmas.{content_len-stop, content_len-piece}
@@ -18,7 +18,7 @@ record IsPlain (b : ℕ) (rest : List ℕ) : Type 0 where
   backslash : b ≢ 92
   dollar : b ≡ 36 → begins_with_brace rest ≡ false
 
--- by the seven tests of `escape_of`
+-- the tests of `escape_of` decide which
 form_by : (b : ℕ) (rest : List ℕ) (t n r q s d o : Bool) → (b == 9) ≡ t → (b == 10) ≡ n → (b == 13) ≡ r → (b == 34) ≡ q → (b == 92) ≡ s
     → (b == 36) ≡ d → begins_with_brace rest ≡ o → IsEscape b rest ⊎ IsPlain b rest
 unfolding escape_of
@@ -53,17 +53,17 @@ form_by b rest false false false false false false o ht hn hr hq hs hd ho =
 form : (b : ℕ) (rest : List ℕ) → IsEscape b rest ⊎ IsPlain b rest
 form b rest = form_by b rest _ _ _ _ _ _ _ refl refl refl refl refl refl refl
 
--- what is written of a byte and those after it
+-- what is written for a byte and those after it
 inside_step : (b : ℕ) (rest piece : List ℕ) → escape_of b rest ≡ piece → inside_of (b ∷ rest) ≡ piece ++ inside_of rest
 unfolding inside_of
 inside_step b rest piece e = ap (λ x. x ++ inside_of rest) e
 
--- of no bytes
+-- nothing is written for no bytes
 empty_reads_back : unescaped false (inside_of []) ≡ []
 unfolding values inside_of
 empty_reads_back = refl
 
--- one more byte, which is escaped or written as it is
+-- one more byte
 reads_back_step : (b : ℕ) (rest : List ℕ) → IsEscape b rest ⊎ IsPlain b rest
     → unescaped false (inside_of rest) ≡ rest → unescaped false (inside_of (b ∷ rest)) ≡ b ∷ rest
 reads_back_step b rest (inl e) h =
@@ -75,7 +75,7 @@ reads_back_step b rest (inr p) h =
     ∙ unescaped_step false b (inside_of rest) record { len = 1; value = b ∷ [] } (grind (arith, nat_tests, p.quote, p.backslash))
     ∙ ap (λ x. b ∷ x) h
 
--- what is written reads back as the value
+-- what is written has the value that was written
 reads_back : (value : List ℕ) → unescaped false (inside_of value) ≡ value
 reads_back [] = empty_reads_back
 reads_back (b ∷ rest) = reads_back_step b rest (form b rest) (reads_back rest)
@@ -84,16 +84,16 @@ reads_back (b ∷ rest) = reads_back_step b rest (form b rest) (reads_back rest)
 abbrev closed : List ℕ → List ℕ → List ℕ
 closed value rest = inside_of value ++ codes "\"" ++ rest
 
--- what is written ends at the closing quote, and so it does after a `$`, unless the value begins with `{`
+-- the content ends at the closing quote, also after a `$`, unless the value begins with `{`
 record Closes (value rest : List ℕ) : Type 0 where
   alone : content_len false (closed value rest) ≡ length (inside_of value)
   dollar : begins_with_brace value ≡ false → content_len false (36 ∷ closed value rest) ≡ 1 + length (inside_of value)
 
--- a `$` is a piece of its own in front of a byte that is neither `$` nor `{`
+-- a `$` before a byte that is neither `$` nor `{` is a piece
 lone_dollar : (b : ℕ) (text : List ℕ) → b ≢ 36 → b ≢ 123 → content_len false (36 ∷ b ∷ text) ≡ 1 + content_len false (b ∷ text)
 lone_dollar b text d o = content_len-piece false 1 (36 ∷ b ∷ text) (grind (arith, nat_tests, d, o)) (omega arith) (omega arith)
 
--- two of them are one piece
+-- `$$` is a piece
 two_dollars : (text : List ℕ) → content_len false (36 ∷ 36 ∷ text) ≡ 2 + content_len false text
 two_dollars text = content_len-piece false 2 (36 ∷ 36 ∷ text) (grind (arith, nat_tests)) (omega arith) (omega arith)
 
@@ -101,11 +101,11 @@ two_dollars text = content_len-piece false 2 (36 ∷ 36 ∷ text) (grind (arith,
 escape_piece : (b : ℕ) (text : List ℕ) → content_len false (92 ∷ b ∷ text) ≡ 2 + content_len false text
 escape_piece b text = content_len-piece false 2 (92 ∷ b ∷ text) (grind (arith, nat_tests)) (omega arith) (omega arith)
 
--- and so is a byte that is not `$`
+-- a byte that is no `$` is a piece
 plain_piece : (b : ℕ) (text : List ℕ) → b ≢ 34 → b ≢ 92 → b ≢ 36 → content_len false (b ∷ text) ≡ 1 + content_len false text
 plain_piece b text q s d = content_len-piece false 1 (b ∷ text) (grind (arith, nat_tests, q, s, d)) (omega arith) (omega arith)
 
--- at a quote the content ends
+-- the content ends at a quote
 quote_closes : (rest : List ℕ) → content_len false (34 ∷ rest) ≡ 0
 quote_closes rest = content_len-stop false (34 ∷ rest) (grind (arith, nat_tests))
 
@@ -150,12 +150,12 @@ closes_step : (b : ℕ) (value rest : List ℕ) → IsEscape b value ⊎ IsPlain
 closes_step b value rest (inl e) h = escape_closes b value rest e h
 closes_step b value rest (inr p) h = plain_closes b value rest (b == 36) refl p h
 
--- what is written ends at the closing quote
+-- this holds for every value
 closes : (value rest : List ℕ) → Closes value rest
 unfolding inside_of
 closes [] rest = record { alone = quote_closes rest; dollar = λ _. lone_dollar 34 rest (omega arith) (omega arith) ∙ ap (λ n. 1 + n) (quote_closes rest) }
 closes (b ∷ value) rest = closes_step b value rest (form b value) (closes value rest)
 
--- quotes around what is written make a string
+-- what is written, in quotes, is a string with the value
 pub is_quoted : (value text : List ℕ) → text ≡ nix_string value → IsQuoted value text
 is_quoted value text e = record { inside = inside_of value; text_is = e; value_is = reads_back value; is_content = λ rest. (closes value rest).alone }

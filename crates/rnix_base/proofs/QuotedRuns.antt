@@ -1,4 +1,4 @@
--- Strings that are written run by run.
+-- Writing strings run by run.
 use Rattle.std.proofs.Common.{◌≡◌, ◌∙◌, ℕ, ◌+◌, ◌<◌, suc, true, false, Bool, List, [], ◌∷◌, ◌++◌, length, get_or, take, drop, ap, sym, refl, subst, arith, inl, inr}
 use Rattle.std.proofs.Common.{append_assoc}
 use Rattle.std.proofs.lemmas.{Bool.cases_lt, Bool.Decides.nat_tests, List.drop_more, Str.{IsCharBoundary-end, IsCharBoundary-before_ascii, IsCharBoundary-after_ascii}}
@@ -6,11 +6,11 @@ use Rattle.std.proofs.lemmas.List.Sums.{prefix_len-le-length, prefix_len_stops}
 use Rattle.std.specs.{Str.{IsCharBoundary, IsUtf8}, List.prefix_len}
 use Rattle.rnix_base.specs.Quoted.{is_ordinary, escape_of, inside_of}
 
--- a byte that may not stand for itself is below 128
+-- a byte that needs an escape is below 128
 low : (b : ℕ) → is_ordinary b ≡ false → b < 128
 low b h = grind (arith, nat_tests)
 
--- the bytes that come first and stand for themselves end before a character, or with the text
+-- the plain bytes at the beginning of a text end at a character boundary
 pub plain_boundary : (text : List ℕ) → IsCharBoundary text (prefix_len is_ordinary text)
 plain_boundary text =
     let n = prefix_len is_ordinary text in
@@ -21,7 +21,7 @@ plain_boundary text =
           subst (IsCharBoundary text) same (IsCharBoundary-end text)
     ]
 
--- the byte after them is no part of a longer character
+-- so does the byte after them
 pub behind_boundary : (text : List ℕ) → IsUtf8 text → prefix_len is_ordinary text < length text → IsCharBoundary text (prefix_len is_ordinary text + 1)
 behind_boundary text utf8 within =
     let n = prefix_len is_ordinary text in
@@ -32,7 +32,7 @@ itself : (b : ℕ) (rest : List ℕ) → is_ordinary b ≡ true → escape_of b 
 unfolding escape_of
 itself b rest h = grind (arith, nat_tests)
 
--- a byte, plain or not, in front of some bytes
+-- what is written for a plain byte, or another one, in front of some bytes
 plain_front : (b : ℕ) (bs : List ℕ) (e : Bool) → is_ordinary b ≡ e
     → inside_of bs ≡ take (prefix_len is_ordinary bs) bs ++ inside_of (drop (prefix_len is_ordinary bs) bs)
     → inside_of (b ∷ bs) ≡ take (prefix_len is_ordinary (b ∷ bs)) (b ∷ bs) ++ inside_of (drop (prefix_len is_ordinary (b ∷ bs)) (b ∷ bs))
@@ -45,20 +45,20 @@ plain_front b bs true h rest =
     rw h (subst (λ k. inside_of (b ∷ bs) ≡ take k (b ∷ bs) ++ inside_of (drop k (b ∷ bs))) e more)
 plain_front b bs false h rest = rw h refl
 
--- a text begins with its plain bytes, and what stands for the others follows
+-- what is written for a text is its plain bytes, and what is written for the rest
 plain_run : (text : List ℕ) → inside_of text ≡ take (prefix_len is_ordinary text) text ++ inside_of (drop (prefix_len is_ordinary text) text)
 unfolding inside_of
 plain_run [] = refl
 plain_run (b ∷ bs) = plain_front b bs (is_ordinary b) refl (plain_run bs)
 
--- they are written with the rest of the text still to come
+-- the plain bytes have been written, and the rest of the text remains
 pub run_written : (old new text run rest : List ℕ) (n : ℕ) → n ≡ prefix_len is_ordinary text → run ≡ take n text → rest ≡ drop n text
     → new ≡ old ++ run → new ++ inside_of rest ≡ old ++ inside_of text
 run_written old new text run rest n len is behind written =
     let whole : inside_of text ≡ take n text ++ inside_of (drop n text) = rw len (plain_run text) in
     rw (written, is, behind) (append_assoc old (take n text) (inside_of (drop n text)) ∙ ap (λ l. old ++ l) (sym whole))
 
--- and so is the byte after them
+-- so has the byte after them
 pub byte_written : (old mid new text run rest : List ℕ) (n d : ℕ) → n ≡ prefix_len is_ordinary text → n < length text → run ≡ take n text
     → rest ≡ drop (n + 1) text → mid ≡ old ++ run → (is_ordinary (get_or text n d) ≡ false → new ≡ mid ++ escape_of (get_or text n d) rest)
     → new ++ inside_of rest ≡ old ++ inside_of text

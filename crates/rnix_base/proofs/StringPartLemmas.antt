@@ -1,4 +1,4 @@
--- The texts of the parts, from a list of symbols.
+-- The texts of the parts of a string, from a list of symbols.
 use Rattle.std.proofs.Common.{◌≡◌, ◌≢◌, ◌<◌, ◌≤◌, ◌++◌, ◌∙◌, ℕ, suc, Bool, true, false, ◌==◌, List, [], ◌∷◌, Some, None, refl, sym, ap, map, arith}
 use Rattle.std.{proofs.{Common.{append_assoc, append-nil}, lemmas.Bool.Decides.nat_tests}, specs.Prelude.{if◌then◌else◌, option_to_list}}
 use Rattle.rnix_base.specs.{declared.parts.InterpolPart.TheVariants.{Literal, Interpolation}, Escapes.unescaped, Normal.{Parts, Symbol, symbols, lines}}
@@ -6,7 +6,7 @@ use Rattle.rnix_base.specs.Normal.{least_indentation, unindented, part_text, wit
 use Rattle.rnix_base.{specs.Indent.{is_lost, remaining_after, kept, remaining_behind, indent_of, no_indent}, proofs.SymbolLineLemmas.{list_kept, list_kept-lines, kept_step}}
 use Rattle.rnix_base.proofs.LeastLemmas.{least-parts}
 
--- the parts without indentation, part by part
+-- the parts without their indentation, part by part
 unfoldable pub unindented_parts : {I : Type 0} → ℕ → ℕ → Parts I → Parts I
 unindented_parts n remaining [] = []
 unindented_parts n remaining (Literal text ∷ parts) = Literal (kept n remaining text) ∷ unindented_parts n (remaining_behind n remaining text) parts
@@ -16,7 +16,7 @@ unindented_parts n remaining (Interpolation i ∷ parts) = Interpolation i ∷ u
 abbrev pub text_symbols : ℕ → List ℕ → List Symbol
 text_symbols m text = map (λ b. record { part = m; byte = Some b }) text
 
--- what one text leaves of a list
+-- what remains of the symbols of one text
 list_kept-text : (n m : ℕ) (text : List ℕ) (remaining : ℕ) (list : List Symbol) → list_kept n remaining (text_symbols m text ++ list)
     ≡ text_symbols m (kept n remaining text)
     ++ list_kept n (remaining_behind n remaining text) list
@@ -71,7 +71,7 @@ list_kept-gap : (n remaining m : ℕ) (list : List Symbol) → list_kept n remai
     ∷ list_kept n 0 list
 list_kept-gap n remaining m list = kept_step n remaining 0 record { part = m; byte = None } list refl refl
 
--- later parts have no bytes of an earlier one
+-- later parts have no symbols of an earlier one
 part_text-later : {I : Type 0} (n k : ℕ) (parts : Parts I) (remaining m : ℕ) → k < m → part_text k (list_kept n remaining (symbols m parts)) ≡ []
 unfolding symbols list_kept part_text
 part_text-later n k [] remaining m h = refl
@@ -85,7 +85,7 @@ part_text-later n k (Interpolation i ∷ parts) remaining m h =
     ap (part_text k) (list_kept-gap n remaining m (symbols (suc m) parts)) ∙ part_text-gap m k (list_kept n 0 (symbols (suc m) parts))
     ∙ part_text-later n k parts 0 (suc m) (omega arith)
 
--- a list that continues after what earlier parts left of it
+-- the list of what remains of later parts, after what remains of earlier ones
 pub with_texts-behind : {I : Type 0} (n : ℕ) (parts : Parts I) (before : List Symbol) (remaining m : ℕ) → ((k : ℕ) → m ≤ k → part_text k before ≡ [])
     → with_texts (before ++ list_kept n remaining (symbols m parts)) m parts ≡ unindented_parts n remaining parts
 unfolding with_texts unindented_parts symbols
@@ -116,12 +116,12 @@ with_texts-behind n (Interpolation i ∷ parts) before remaining m none =
     ap (λ list. Interpolation i ∷ with_texts list (suc m) parts) whole
     ∙ ap (λ t. Interpolation i ∷ t) (with_texts-behind n parts (before ++ gap ∷ []) 0 (suc m) passed)
 
--- a text of the last part, without the spaces after its last line feed
+-- the text of a part; for the last part, without the spaces after its last line feed
 abbrev pub last_text : {I : Type 0} → Parts I → List ℕ → List ℕ
 last_text [] text = without_last_spaces text
 last_text (part ∷ parts) text = text
 
--- the parts of an indented string, one by one
+-- the parts of an indented string, part by part
 unfoldable pub indented_from : {I : Type 0} → ℕ → ℕ → Parts I → Parts I
 indented_from n remaining [] = []
 indented_from n remaining (Literal text ∷ parts) = Literal (unescaped true (last_text parts (kept n remaining text)))
@@ -139,7 +139,7 @@ closed_from n remaining (Literal text ∷ Interpolation i ∷ parts) =
     ap (λ t. Literal (unescaped true (kept n remaining text)) ∷ t) (closed_from n (remaining_behind n remaining text) (Interpolation i ∷ parts))
 closed_from n remaining (Interpolation i ∷ parts) = ap (λ t. Interpolation i ∷ t) (closed_from n 0 parts)
 
--- the normalized parts, one by one
+-- the normalized parts, part by part
 pub indented_parts-from : {I : Type 0} (parts : Parts I) (n : ℕ) → n ≡ (indent_of no_indent (opened parts)).least
     → indented_from n n (opened parts) ≡ indented_parts parts
 indented_parts-from parts n e =

@@ -3,7 +3,7 @@ use Rattle.std.proofs.Common.{◌≡◌, ◌+◌, ◌-◌, ◌++◌, ◌∙◌, 
 use Rattle.{std.{proofs.{Common.{ap, drop, arith}, lemmas.Bool.Decides.nat_tests}, specs.{Prelude.if◌then◌else◌, List.flat_map}}, rnix_base.specs.Normal.Symbol}
 use Rattle.rnix_base.specs.{Normal.{is_byte, is_gap, is_feed, before_line, lines, indentation, shortened}, Indent.{is_lost, remaining_after}}
 
--- what stays of a list, where its first line loses up to `left` spaces and each other line up to n
+-- what remains of lines, if the first one loses up to `left` spaces and each other one up to `n`
 unfoldable pub shortened_from : ℕ → ℕ → List (List Symbol) → List Symbol
 shortened_from n remaining [] = []
 shortened_from n remaining (line ∷ lines) = shortened remaining line ++ flat_map (shortened n) lines
@@ -44,13 +44,13 @@ drop_none : (k : ℕ) → drop {A = Symbol} k [] ≡ []
 drop_none zero = refl
 drop_none (suc k) = refl
 
--- a space that is lost
+-- a space that is removed
 from_gap : (n l : ℕ) (s : Symbol) (ls : List (List Symbol)) → is_gap s ≡ true → shortened_from n (suc l) (before_line s ls) ≡ shortened_from n l ls
 unfolding shortened_from
 from_gap n l s [] e = ap (λ t. t ++ []) (shortened_gap l s [] e) ∙ ap (λ t. t ++ []) (drop_none (min l 0))
 from_gap n l s (line ∷ ls) e = ap (λ t. t ++ flat_map (shortened n) ls) (shortened_gap l s line e)
 
--- a symbol that stays, and ends no line
+-- a symbol that stays and ends no line
 from_stays : (n l : ℕ) (s : Symbol) (ls : List (List Symbol)) → ((line : List Symbol) → shortened l (s ∷ line) ≡ s ∷ line)
     → shortened_from n l (before_line s ls) ≡ s ∷ shortened_from n 0 ls
 unfolding shortened_from
@@ -69,7 +69,7 @@ pub lines_more : (s : Symbol) (list : List Symbol) → is_feed s ≡ false → l
 unfolding lines
 lines_more s list e = ap (λ f. if f then (s ∷ []) ∷ lines list else before_line s (lines list)) e
 
--- what one symbol does
+-- what remains after one symbol
 pub kept_step : (n remaining next : ℕ) (s : Symbol) (list : List Symbol) → is_lost remaining s.byte ≡ false → remaining_after n remaining s.byte ≡ next
     → list_kept n remaining (s ∷ list) ≡ s ∷ list_kept n next list
 unfolding list_kept
@@ -120,6 +120,6 @@ unfolding list_kept shortened_from lines
 list_is_shortened n remaining [] = refl
 list_is_shortened n remaining (s ∷ list) = lines_step n remaining s list (is_feed s) (is_gap s) refl refl (λ l. list_is_shortened n l list)
 
--- the lines of a list are shortened symbol by symbol
+-- the lines of a list lose their indentation symbol by symbol
 pub list_kept-lines : (n : ℕ) (list : List Symbol) → flat_map (shortened n) (lines list) ≡ list_kept n n list
 list_kept-lines n list = sym (list_is_shortened n n list ∙ from_start n (lines list))

@@ -1,4 +1,4 @@
--- What the lines of a text do not lose: byte by byte, then a line at once.
+-- What remains of the lines of a text without their indentation: byte by byte, then line by line.
 use Rattle.std.proofs.Common.{◌≡◌, ◌+◌, ◌-◌, ◌<◌, ◌≤◌, ◌++◌, ◌∙◌, ℕ, zero, suc, true, false, ◌==◌, List, [], ◌∷◌, Some, refl, sym, ap, inl, inr, length}
 use Rattle.std.proofs.{Common.{get_or, take, drop, arith, length-drop, length-take-le, take-append-drop}, Math.Seq.take-suc, lemmas.Bool.{cases_lt, Decides.nat_tests}}
 use Rattle.std.proofs.lemmas.List.{append-nil, append_assoc, nil_from_length, drop_more, get_or-take, get_or-drop}
@@ -17,7 +17,7 @@ remaining_behind_byte : (least remaining b : ℕ) (rest : List ℕ) → remainin
 unfolding remaining_behind
 remaining_behind_byte least remaining b rest = refl
 
--- the spaces that a text begins with are lost, up to `left`
+-- the spaces at the beginning of a text are removed, up to `left`
 pub lose : (least remaining n : ℕ) (text : List ℕ) → n ≤ remaining → n ≤ length text → ((k : ℕ) → k < n → is_space (get_or text k 0) ≡ true)
     → (kept least remaining text ≡ kept least (remaining - n) (drop n text))
     × (remaining_behind least remaining text ≡ remaining_behind least (remaining - n) (drop n text))
@@ -37,7 +37,7 @@ lose least remaining (suc n) (b ∷ text) l h space =
           ∙ ap (λ k. remaining_behind least k (drop n text)) same,
     )
 
--- a byte that is not lost stays
+-- a byte that is not removed stays
 stays_byte : (least remaining b next : ℕ) (rest : List ℕ) → is_lost remaining (Some b) ≡ false → (if b == 10 then least else 0) ≡ next
     → (kept least remaining (b ∷ rest) ≡ b ∷ kept least next rest) × (remaining_behind least remaining (b ∷ rest) ≡ remaining_behind least next rest)
 stays_byte least remaining b next rest lost e =
@@ -48,7 +48,7 @@ stays_byte least remaining b next rest lost e =
       remaining_behind_byte least remaining b rest ∙ ap (λ k. remaining_behind least k rest) after,
     )
 
--- a line without a line feed stays, where it does not begin with a space that is lost
+-- a line without a line feed stays, if it does not begin with a space to be removed
 stays_line : (least remaining : ℕ) (b : ℕ) (line rest : List ℕ) → is_lost remaining (Some b) ≡ false
     → ((k : ℕ) → k < suc (length line) → is_inside_line (get_or (b ∷ line) k 0) ≡ true)
     → (kept least remaining (b ∷ (line ++ rest)) ≡ b ∷ (line ++ kept least 0 rest))
@@ -75,7 +75,7 @@ pub grown : {A : Type 0} (whole before after piece rest more : List A) → whole
     → whole ≡ after ++ more
 grown whole before after piece rest more e f h = e ∙ ap (λ t. before ++ t) f ∙ sym (append_assoc before piece more) ∙ ap (λ t. t ++ more) (sym h)
 
--- so a line with its line feed stays, and the next loses as much as any
+-- a line with its line feed stays, and the next one loses as much as any
 stays_fed : (least remaining : ℕ) (line rest : List ℕ) → (0 < length line → is_lost remaining (Some (get_or line 0 0)) ≡ false)
     → ((k : ℕ) → k < length line → is_inside_line (get_or line k 0) ≡ true)
     → (kept least remaining (line ++ 10 ∷ rest) ≡ (line ++ 10 ∷ []) ++ kept least least rest)
@@ -86,7 +86,7 @@ stays_fed least remaining (b ∷ line) rest first inside =
     let feed = stays_byte least 0 10 least rest refl refl in
     (all.0 ∙ ap (λ t. b ∷ (line ++ t)) feed.0 ∙ sym (append_assoc (b ∷ line) (10 ∷ []) (kept least least rest)), all.1 ∙ feed.1)
 
--- and the last line without one
+-- so does a last line without one
 stays_last : (least remaining : ℕ) (line : List ℕ) → 0 < length line → is_lost remaining (Some (get_or line 0 0)) ≡ false
     → ((k : ℕ) → k < length line → is_inside_line (get_or line k 0) ≡ true)
     → (kept least remaining line ≡ line ++ kept least 0 []) × (remaining_behind least remaining line ≡ remaining_behind least 0 [])
@@ -102,14 +102,14 @@ module _ (least remaining lost : ℕ) (text line : List ℕ) (is : lost ≡ min 
   fits : lost ≤ length text
   fits = omega (arith, within.1, prefix_len-le-length is_space text)
 
-  -- the spaces are lost
+  -- the spaces are removed
   pub spaces_lost : (kept least remaining text ≡ kept least (remaining - lost) line)
       × (remaining_behind least remaining text ≡ remaining_behind least (remaining - lost) line)
   spaces_lost =
       let all = lose least remaining lost text within.0 fits (λ k l. prefix_len_passes is_space text k 0 (omega (arith, l, within.1))) in
       (all.0 ∙ ap (kept least (remaining - lost)) (sym behind), all.1 ∙ ap (remaining_behind least (remaining - lost)) (sym behind))
 
-  -- what follows is not lost
+  -- what follows them is not removed
   first_stays : 0 < length line → is_lost (remaining - lost) (Some (get_or line 0 0)) ≡ false
   first_stays some =
       let one : get_or line 0 0 ≡ get_or text lost 0 = ap (λ t. get_or t 0 0) behind ∙ get_or-drop lost text 0 0 ∙ ap (λ k. get_or text k 0) (omega arith) in
@@ -164,7 +164,7 @@ module _ (least remaining lost : ℕ) (text line : List ℕ) (is : lost ≡ min 
           shorter = more;
         }
 
--- after spaces a character begins, or the text ends
+-- the spaces end at a character boundary
 pub behind_spaces : (text : List ℕ) (lost remaining : ℕ) → IsUtf8 text → lost ≡ min (spaces text) remaining → IsCharBoundary text lost
 behind_spaces text zero remaining utf8 is = IsCharBoundary-start text utf8
 behind_spaces text (suc k) remaining utf8 is =
@@ -174,7 +174,7 @@ behind_spaces text (suc k) remaining utf8 is =
     subst (IsCharBoundary text) one
     (IsCharBoundary-after_ascii text k utf8 (omega (arith, low, prefix_len-le-length is_space text)) (grind (arith, nat_tests)))
 
--- and after a line feed
+-- so does a line feed
 pub behind_feed : (line : List ℕ) (len : ℕ) → IsUtf8 line → len ≡ prefix_len is_inside_line line → len < length line → IsCharBoundary line (len + 1)
 behind_feed line len utf8 run there =
     let stop : is_inside_line (get_or line len 0) ≡ false =

@@ -6,12 +6,12 @@ use Rattle.rnix_base.specs.Value.{without_escapes, without_last_line, ended, val
 use Rattle.rnix_base.proofs.{SymbolLineLemmas.list_kept-lines, LeastLemmas.least-parts, StringPartLemmas.{unindented_parts, with_texts-behind, part_text-none}}
 use denote.Ref.{Bor}
 
--- a text that is the last one, without the spaces after its last line feed, and any other
+-- the text of a part; for the last part, without the spaces after its last line feed
 abbrev pub ended_text : {I : Type 0} → Parts I → List ℕ → List ℕ
 ended_text [] text = without_last_line text
 ended_text (part ∷ parts) text = text
 
--- the value of parts, where the first line loses up to `left` spaces
+-- the value of parts, if the first line loses up to `left` spaces
 abbrev pub value_from : {I : Type 0} → ℕ → ℕ → Parts I → Parts I
 value_from n remaining parts = unindented_parts n remaining (map (with_text (unescaped true)) (ended parts))
 
@@ -52,7 +52,7 @@ pub ended_before_end : {I : Type 0} (more : List (InterpolPart (Bor (List ℕ)) 
 ended_before_end [] text e = absurd (e refl)
 ended_before_end (part ∷ more) text e = refl
 
--- all parts are read
+-- all parts have been read
 pub all_read : {I : Type 0} (n remaining : ℕ) (done whole : Parts I) (rest : List (InterpolPart (Bor (List ℕ)) I)) → whole ≡ done
     ++ value_from n remaining (borrowed rest) → length rest ≡ 0 → done ≡ whole
 unfolding ended unindented_parts
@@ -69,7 +69,7 @@ indented_value-from parts n e =
     ∙ ap (λ list. with_texts list 0 whole) (sym (list_kept-lines n (symbols 0 whole)))
     ∙ ap (λ k. dedented k whole) least
 
--- the next part of a string between `"`
+-- the next part of a string in `"`
 pub quoted_next : {I : Type 0} (rest more : List (InterpolPart (Bor (List ℕ)) I)) (part : InterpolPart (Bor (List ℕ)) I) (i : I) → rest ≡ part ∷ more
     → part ≡ Interpolation i
     → quoted_value (borrowed rest) ≡ Interpolation i ∷ [] ++ quoted_value (borrowed more)

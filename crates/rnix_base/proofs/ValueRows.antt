@@ -7,7 +7,7 @@ escaped_feed : indented_value {I = ℕ} (Literal (codes "\n  a''\\n   b\n") ∷ 
 unfolding values symbols lines least_indentation part_text with_texts marked ended
 escaped_feed = refl
 
--- but does not count for the indentation
+-- an escaped line feed does not count for the least indentation
 not_counted : indented_value {I = ℕ} (Literal (codes "\n    a''\\n b\n    c") ∷ []) ≡ (Literal (codes "a\nb\nc") ∷ [])
 unfolding values symbols lines least_indentation part_text with_texts marked ended
 not_counted = refl
@@ -22,7 +22,7 @@ escaped_blank : indented_value {I = ℕ} (Literal (codes "\n  a''\\n''\\  b''\\ 
 unfolding values symbols lines least_indentation part_text with_texts marked ended
 escaped_blank = refl
 
--- quotes after quotes are an escape, and the backslash and the line feed after them are none
+-- `'''` is an escape, so the backslash and the line feed after it are not
 three_quotes : indented_value {I = ℕ} (Literal (codes "\n  a'''\\\n  ") ∷ []) ≡ (Literal (codes "a''\\\n") ∷ [])
 unfolding values symbols lines least_indentation part_text with_texts marked ended
 three_quotes = refl
@@ -33,7 +33,7 @@ plain_lines : indented_value {I = ℕ} (Literal (codes "\n  hello\n    ") ∷ In
 unfolding values symbols lines least_indentation part_text with_texts marked ended
 plain_lines = refl
 
--- carriage returns between `"` are line feeds
+-- carriage returns in `"` are line feeds
 returns_fed : quoted_value {I = ℕ} (Literal (codes "a\r\nb\rc\\\r\nd\\r") ∷ []) ≡ (Literal (codes "a\nb\nc\r\nd\r") ∷ [])
 unfolding values fed
 returns_fed = refl

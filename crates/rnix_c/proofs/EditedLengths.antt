@@ -1,4 +1,4 @@
--- A text after an edit, and how long it is.
+-- An edited text, and its length.
 use Rattle.std.proofs.Common.{◌≡◌, ℕ, ◌+◌, ◌-◌, ◌<◌, ◌^◌, List, ◌++◌, length, take, drop, IsUtf8, ap, ◌∙◌, arith, length-append, length-drop}
 use Rattle.std.proofs.lemmas.List.{length-take-le}
 use Rattle.rnix_kinds.specs.Lexical.Tokens.{tokens_of}
@@ -6,7 +6,7 @@ use Rattle.rnix_green.specs.{Forest.{text_of}, Range.{Extent}, Tree.{Tree, fores
 use Rattle.rnix_grammar.specs.{Fault.{Fault}, Parsed.{IsParsed}}
 use Rattle.rnix_reparse.{specs.{EditedRange.{edited}, EditableRanges.{between, IsEditable}}, proofs.OwnTexts.{own_text}}
 
--- its new bytes take the place of those in the range
+-- the length of an edited text: the new bytes replace those in the range
 pub length_edited : (text new : List ℕ) (start end : ℕ) → IsEditable text start end →
     length (edited (between start end) new text) ≡ length text - (end - start) + length new
 length_edited text new start end h =
@@ -15,13 +15,13 @@ length_edited text new start end h =
     let back = length-append new (drop end text) in
     omega (arith, h.0, h.1.end.0, front, whole, back, length-drop end text)
 
--- equal edits of equal texts give the same text
+-- equal edits of equal texts have equal results
 pub same_edited : (range other : Extent) (new new_too text text_too : List ℕ) → range ≡ other → new ≡ new_too → text ≡ text_too →
     edited range new text ≡ edited other new_too text_too
 same_edited range other new new_too text text_too r n t =
     ap (λ range. edited range new text) r ∙ ap (λ new. edited other new text) n ∙ ap (edited other new_too) t
 
--- the tree of a short text has a short text
+-- if the tree of a text is short, so is the text
 pub short_text : (text : List ℕ) (tree : Tree) (faults : List Fault) → IsUtf8 text → IsParsed (tokens_of text) tree faults → length text < 2 ^ 32 →
     length (text_of (forest_of tree)) < 2 ^ 32
 short_text text tree faults utf8 p short = omega (arith, short, ap (length {A = ℕ}) (own_text text tree faults utf8 p))

@@ -1,4 +1,4 @@
--- The element of a number, and strings among elements.
+-- The element with a number, and the strings among the elements.
 use Rattle.std.proofs.Common.{◌≡◌, ℕ, zero, suc, ◌+◌, ◌<◌, length, Option, Some, None, true, false, sym, ap, ◌∙◌, arith}
 use Rattle.std.{specs.{List.{slice_get}, Prelude.{option_map, IfSome, IfNone, is_some}}, proofs.lemmas.{List.{length-map}, Option.{slice_get-map, slice_get_within}}}
 use Rattle.rnix_kinds.specs.{declared.kinds.SyntaxKind.TheVariants.{NODE_STRING}}
@@ -11,11 +11,11 @@ get_counted a zero i l = absurd (omega arith)
 get_counted a (suc k) zero l = ap Some (omega arith)
 get_counted a (suc k) (suc i) l = get_counted (a + 1) k i (omega arith) ∙ ap Some (omega arith)
 
--- the root holds all other elements
+-- all other elements are inside the root
 all_inside : (t : Tree) → 1 + (item t 0).below ≡ length (items_of t)
 all_inside t = omega (arith, elements_in_all t)
 
--- the element of a number in preorder
+-- the element with a number in preorder
 pub element_there : (t : Tree) (n : ℕ) → n < length (items_of t) → slice_get (elements_of (located t 0)) n ≡ Some (spot_at t n)
 element_there t n l =
     slice_get-map (spot_at t) (counted 0 (1 + (item t 0).below)) n
@@ -31,13 +31,13 @@ is_there t n spot e =
       all_inside t,
     )
 
--- a spot that is that of a number
+-- the spot at an index is that of the element with this number
 pub spot_is : (t : Tree) (n : ℕ) (spot : Spot) → slice_get (elements_of (located t 0)) n ≡ Some spot → spot ≡ spot_at t n
 spot_is t n spot e =
     let there = element_there t n (is_there t n spot e) in
     cc (e, there)
 
--- where no element has the number, no string has it
+-- if no element has the number, no string has it
 pub none_there : (t : Tree) (n : ℕ) → slice_get (elements_of (located t 0)) n ≡ None → ¬ IsString (located t n)
 none_there t n e string =
     let there = element_there t n string.0.is_there in

@@ -1,4 +1,4 @@
--- A tree has few elements for the bytes of its text.
+-- The number of elements of a tree is bounded by the bytes of its text.
 use Rattle.std.proofs.Common.{◌≡◌, ◌≤◌, ℕ, ◌+◌, ◌*◌, List, [], length, None, IsUtf8, arith}
 use Rattle.std.proofs.lemmas.List.{length-map}
 use Rattle.{rnix_kinds.{specs.Lexical.Tokens.{tokens_of}, proofs.LexicalLemmas.Laws.{AreSound-tokens_under}}, rnix_parser.proofs.SizedTexts.{sized_by_bytes}}
@@ -6,7 +6,7 @@ use Rattle.{rnix_green.specs.{Forest.element_count, Tree.{Tree, forest_of, items
 use Rattle.{rnix_grammar.specs.{Fault.Fault, Parsed.IsParsed}, rnix_parser.specs.ReadingLaws.{OfRead, elements_in}}
 use Rattle.rnix_c.specs.Elements.{element_of, elements_of, AreFew}
 
--- as the law of the size of trees says
+-- from the law `size`
 pub few_elements : (text : List ℕ) (tree : Tree) (faults : List Fault) → OfRead text (λ tree faults. elements_in tree ≤ 3 * length text + 3)
     → IsParsed (tokens_of text) tree faults → AreFew text tree
 few_elements text tree faults law p =
@@ -15,7 +15,7 @@ few_elements text tree faults law p =
     let written : length (elements_of tree) ≡ length (items_of tree) = length-map (items_of tree) element_of in
     omega (arith, few, same, written)
 
--- so a text has few elements
+-- this holds for the parse of a text
 pub few_parsed : (text : List ℕ) (tree : Tree) (faults : List Fault) → IsUtf8 text → IsParsed (tokens_of text) tree faults → AreFew text tree
 few_parsed text tree faults utf8 p =
     few_elements text tree faults (λ tree faults r. sized_by_bytes text tree faults (AreSound-tokens_under [] text utf8) r) p

@@ -1,4 +1,4 @@
--- What is kept of a tree is found again in the arrays that hold what is written of it.
+-- The elements of a tree can be read back from the arrays that hold what was written of them.
 use Rattle.std.proofs.Common.{◌≡◌, ℕ, suc, ◌+◌, ◌-◌, ◌<◌, ◌^◌, cond, Bool, true, false, List, [], ◌∷◌, ◌++◌, length, map, take, get_or, Option, Some, None, refl, sym, ap, ◌∙◌, arith}
 use Rattle.std.{specs.Prelude.{IfSome}, proofs.lemmas.{Bool.{ne_eqb}, List.{get_or-map, length-map, map-append, take_more}}}
 use Rattle.rnix_kinds.{specs.{declared.kinds.SyntaxKind.{SyntaxKind}, SyntaxKind.{discriminant_of}}}
@@ -6,7 +6,7 @@ use Rattle.rnix_green.{specs.{declared.packed.Packed.{Packed}, Packed.{packed}, 
 use Rattle.rnix_c.specs.{declared.compact.{RnixRange.{RnixRange}, RnixLink.{RnixLink}}, CompactElements.{parent_or_none, range_of, link_of}}
 use Rattle.rnix_c.specs.KeptArrays.{HoldTree, kept_parent, kept_size, kept_by}
 
--- no element has the number that stands for no parent
+-- no parent has the number that means no parent
 small_parent : (t : Tree) (n : ℕ) → n < length (items_of t) → length (items_of t) < 2 ^ 32 → IfSome (item t n).parent (λ parent. parent < 2 ^ 32 - 1)
 small_parent t n l few = go (item t n).parent refl
   where
@@ -14,7 +14,7 @@ small_parent t n l few = go (item t n).parent refl
     go None e = tt
     go (Some parent) e = omega (arith, l, few, parent_is_before t n parent l e)
 
--- the parent that is written is the one that is kept
+-- the parent that is read back is the one that was written
 parent_again : (parent : Option ℕ) → IfSome parent (λ parent. parent < 2 ^ 32 - 1) → kept_parent (parent_or_none parent) ≡ parent_or_root parent
 parent_again None l = refl
 parent_again (Some parent) l = ap (λ b. cond b 0 parent) (ne_eqb parent (2 ^ 32 - 1) (λ e. omega (arith, l, e)))
@@ -24,13 +24,13 @@ size_again : (is_node : Bool) (below : ℕ) → kept_size (cond is_node 0 1) bel
 size_again true below = refl
 size_again false below = refl
 
--- so is an element
+-- so is the whole element
 element_again : (i : Item) → IfSome i.parent (λ parent. parent < 2 ^ 32 - 1) → kept_by i.kind (range_of i) (link_of i) ≡ kept_of i
 element_again i l =
     ap (λ parent. packed i.kind i.start parent (kept_size (cond i.is_node 0 1) i.below)) (parent_again i.parent l)
     ∙ ap (packed i.kind i.start (parent_or_root i.parent)) (size_again i.is_node i.below)
 
--- once the first elements are kept, the next is kept behind them
+-- after the first elements, the next one is read back
 pub next_kept : (t : Tree) (ranges : List RnixRange) (links : List RnixLink) (n : ℕ) (range : RnixRange) (link : RnixLink) (old new : List Packed)
     (no_range : RnixRange) (no_link : RnixLink) → HoldTree ranges links t → n < length ranges → range ≡ get_or ranges n no_range → link ≡ get_or links n no_link
     → ((kind : SyntaxKind) → discriminant_of kind ≡ link.kind → new ≡ old ++ (kept_by kind range link ∷ []))

@@ -1,8 +1,8 @@
--- How a call for a fix ends.
+-- The result of a call for a fix.
 use Rattle.std.proofs.Common.{◌≡◌, List, ℕ, ℤ, inl, inr, subst, IsUtf8}
 use Rattle.rnix_c.specs.{declared.fixes.RnixFix.{RnixFix}, Answers.{Answers}, FixCalls.{WritesFixAt, WritesFixIn}}
 
--- what is written for a text is how the call for its bytes ends
+-- what is written for a text is the result of the call for its bytes
 pub answered : (text bytes : List ℕ) (given answer : ℤ) (number : ℕ) (was is : RnixFix) (old new : List ℕ) → IsUtf8 bytes →
     text ≡ bytes → given ≡ answer → WritesFixIn text number given was is old new →
     Answers bytes answer ((is ≡ was) × (new ≡ old)) (λ tree faults. WritesFixAt bytes tree faults number answer was is old new)

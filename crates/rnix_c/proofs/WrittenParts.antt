@@ -1,4 +1,4 @@
--- Parts of strings that are written one after another.
+-- Writing parts of strings one after another.
 use Rattle.std.proofs.Common.{◌≡◌, ℕ, suc, ◌+◌, ◌<◌, List, [], ◌∷◌, length, drop, get_or, refl, sym, ap, ◌∙◌, arith, add-one}
 use Rattle.std.proofs.{Math.Seq.{drop-cons}}
 use Rattle.rnix_green.specs.Tree.{Located}
@@ -18,10 +18,10 @@ module _ (n before : ℕ) (parts : Parts Located) (part : InterpolPart (List ℕ
       (drop (suc n) parts)
   both = sym (drop-cons (parts_from 0 parts) n (part_at before part) (omega (arith, length-parts_from 0 parts))) ∙ rest ∙ ap (parts_from before) cut
 
-  -- what is written of the next part is what the list has there
+  -- what is written of the next part is the next element of the list
   pub next_is : part_at before part ≡ get_or (parts_from 0 parts) n (part_at before part)
   next_is = cc both
 
-  -- after it the list continues with the other parts
+  -- the list continues with the other parts
   pub rest_is : drop (n + 1) (parts_from 0 parts) ≡ parts_from (end_after before part) (drop (n + 1) parts)
   rest_is = ap (λ k. drop k (parts_from 0 parts)) (add-one n) ∙ (cc both) ∙ ap (λ k. parts_from (end_after before part) (drop k parts)) (sym (add-one n))

@@ -1,10 +1,10 @@
--- Where blanks begin, and that a text may be cut there.
+-- Where blanks begin, and that these positions are character boundaries.
 use Rattle.std.proofs.Common.{◌≡◌, ℕ, zero, suc, ◌+◌, ◌-◌, ◌<◌, ◌≤◌, inl, inr, Bool, true, false, List, [], length, take, drop, refl, sym, ap, ◌∙◌, subst, arith}
 use Rattle.std.proofs.lemmas.{Bool.{Decides.nat_tests, cases_lt, false≢true}, List.get_or_past, Str.{IsCharBoundary-before_ascii, IsCharBoundary-after_ascii}}
 use Rattle.std.specs.{Prelude.{◌==◌, if◌then◌else◌, slice_index}, Str.{IsUtf8, IsCharBoundary}}
 use Rattle.rnix_edit.specs.Blanks.{is_blank, byte_before, blanks_start, blanks_before}
 
--- a blank before an offset is in the text
+-- if there is a blank before an offset, the offset is not 0
 pub blank_inside : (text : List ℕ) (n : ℕ) → is_blank (byte_before text n) ≡ true → 1 ≤ n
 blank_inside text zero is = absurd (false≢true is)
 blank_inside text (suc n) is = omega arith
@@ -23,12 +23,12 @@ blank_passed text (suc n) is =
     let less : suc n - 1 ≡ n = omega arith in
     ap (blanks_start text) less ∙ ap (λ b. if b then blanks_start text n else suc n) (sym (ap is_blank (sym (byte_at text n)) ∙ is))
 
--- no blank is left
+-- if no blank is left, this is where the blanks begin
 pub blanks_passed : (text : List ℕ) (n : ℕ) → is_blank (byte_before text n) ≡ false → n ≡ blanks_start text n
 blanks_passed text zero fails = refl
 blanks_passed text (suc n) fails = ap (λ b. if b then blanks_start text n else suc n) (sym (ap is_blank (sym (byte_at text n)) ∙ fails))
 
--- what is between where blanks begin and where they end is a blank, by whether the last byte is one
+-- the bytes between where blanks begin and where they end are blanks, whether or not the last byte is one
 between_by : (text : List ℕ) (n k : ℕ) (b : Bool) → is_blank (slice_index text n) ≡ b → (if b then blanks_start text n else suc n) ≤ k → k < suc n →
     (blanks_start text n ≤ k → k < n → is_blank (slice_index text k) ≡ true) → is_blank (slice_index text k) ≡ true
 between_by text n k true is low high before =
@@ -38,7 +38,7 @@ between_by text n k true is low high before =
     ]
 between_by text n k false is low high before = absurd (omega arith)
 
--- what is between where blanks begin and where they end is a blank
+-- the bytes between where blanks begin and where they end are blanks
 blanks_between : (text : List ℕ) (n k : ℕ) → blanks_start text n ≤ k → k < n → is_blank (slice_index text k) ≡ true
 blanks_between text zero k low high = absurd (omega arith)
 blanks_between text (suc n) k low high = between_by text n k (is_blank (slice_index text n)) refl low high (blanks_between text n k)
@@ -47,7 +47,7 @@ blanks_between text (suc n) k low high = between_by text n k (is_blank (slice_in
 blank_is_ascii : (byte : ℕ) → is_blank byte ≡ true → byte < 128
 blank_is_ascii byte is = grind (arith, nat_tests)
 
--- a blank is a byte of the text
+-- a blank is in the text
 blank_is_there : (text : List ℕ) (k : ℕ) → is_blank (slice_index text k) ≡ true → k < length text
 blank_is_there text k is =
     elim (cases_lt k (length text)) [
@@ -55,7 +55,7 @@ blank_is_there text k is =
       | inr past ↦ absurd (false≢true (ap is_blank (sym (get_or_past text k 0 past)) ∙ is))
     ]
 
--- a text may be cut before blanks and after them
+-- blanks begin and end at character boundaries
 pub blanks_cut : (text : List ℕ) (n : ℕ) → IsUtf8 text → blanks_start text n < n → IsCharBoundary text (blanks_start text n) × IsCharBoundary text n
 blanks_cut text n utf8 some =
     let first : is_blank (slice_index text (blanks_start text n)) ≡ true = blanks_between text n (blanks_start text n) (omega arith) some in
@@ -65,7 +65,7 @@ blanks_cut text n utf8 some =
       subst (IsCharBoundary text) whole (IsCharBoundary-after_ascii text (n - 1) utf8 (blank_is_there text _ last) (blank_is_ascii _ last)),
     )
 
--- where a text may not be cut around blanks, there are none
+-- if blanks do not begin and end at character boundaries, there are none
 pub no_blanks : (text : List ℕ) (n : ℕ) → IsUtf8 text →
     (blanks_start text n ≤ n → IsCharBoundary text (blanks_start text n) → ¬ (IsCharBoundary text n)) → [] ≡ blanks_before text n
 no_blanks text n utf8 uncut =

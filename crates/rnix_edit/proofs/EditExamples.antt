@@ -1,4 +1,4 @@
--- What goes with a node, and where a new one is put, in small texts; by computation. An entry of a set is one token here.
+-- What is removed with a node, and where a new one is put, in small texts, by computation. An entry of a set is one token here.
 use Rattle.std.proofs.Common.{◌≡◌, ℕ, List, [], refl, codes, arith}
 use Rattle.std.proofs.lemmas.Bool.{false≢true}
 use Rattle.rnix_kinds.specs.declared.kinds.SyntaxKind.TheVariants as k
@@ -39,7 +39,7 @@ in_lines =
     at (set (space (codes "\n  ") (entry (codes "a;") (space (codes " ") (leaf k.TOKEN_COMMENT (codes "# 1") (space (codes "\n  ")
     (entry (codes "b;") (space (codes "\n") closing))))))) (space (codes "\n") empty))
 
--- an entry goes with its line and the comment on it
+-- an entry is removed with its line and the comment on it
 without_line : without lines (in_lines 4) ≡ codes "{\n  b;\n}\n"
 without_line = refl
 
@@ -50,7 +50,7 @@ without_last_line = refl
 after_line : with_c lines (gap_after lines (in_lines 4)) ≡ codes "{\n  a; # 1\n  c;\n  b;\n}\n"
 after_line = refl
 
--- or the line before the closing brace
+-- at the end of the set, it gets the line before the closing brace
 in_set : with_c lines (gap_inside lines (in_lines 1)) ≡ codes "{\n  a; # 1\n  b;\n  c;\n}\n"
 in_set = refl
 
@@ -61,26 +61,26 @@ one_line = codes "{ a; b;}"
 abbrev in_one_line : ℕ → Located
 in_one_line = at (set (space (codes " ") (entry (codes "a;") (space (codes " ") (entry (codes "b;") closing)))) empty)
 
--- an entry goes with the blanks after it, or before it where none follow
+-- an entry is removed with the blanks after it, or with those before it if none follow
 without_first : without one_line (in_one_line 4) ≡ codes "{ b;}"
 without_first = refl
 
 without_second : without one_line (in_one_line 7) ≡ codes "{ a;}"
 without_second = refl
 
--- a new entry comes after a space, or between two
+-- a new entry has a space before it, or one on each side
 after_first : with_c one_line (gap_after one_line (in_one_line 4)) ≡ codes "{ a; c; b;}"
 after_first = refl
 
 in_one_line_set : with_c one_line (gap_inside one_line (in_one_line 1)) ≡ codes "{ a; b; c; }"
 in_one_line_set = refl
 
--- an entry is last in a set: its closing brace alone follows there
+-- an entry is the last in a set: only the closing brace follows it there
 entry_is_last : IsLastIn (at (set closing empty) 0) (node_range_of (at (set closing empty) 1)) (at (set (entry (codes "c;") closing) empty) 0)
     (node_range_at k.NODE_ATTRPATH_VALUE 1 (codes "c;"))
 entry_is_last = record { added = record { is_there = refl; rest = refl }; fits = omega arith; token = refl; after = refl }
 
--- a body that ends with a set, as that of a function does
+-- a body that ends with a set, like that of a function
 abbrev body : Forest → Forest
 body entries = node k.NODE_LAMBDA (set entries empty) empty
 

@@ -1,4 +1,4 @@
--- What was tested of a text with one change that was read again.
+-- What the tests say of a text with one change.
 use Rattle.std.proofs.Common.{◌≡◌, ℕ, false, List, [], ◌∷◌, ◌++◌, length, sym, ap, ◌∙◌, subst, arith, string_bytes}
 use Rattle.std.proofs.lemmas.{List.length-append, Bool.false≢true}
 use Rattle.rnix_kinds.specs.Lexical.Tokens.{tokens_of}
@@ -16,14 +16,14 @@ use Rattle.rnix_edit.specs.Edited.{spliced, IsMade, IsNotMade, Both, IfDone, IfR
 use Rattle.rnix_edit.specs.ParsedEdit.{is_memory, IsReadAs, IsNotParsed}
 
 module _ (text : List ℕ) (start end : ℕ) (new : List ℕ) (so : Located → Type 0) where
-  -- a text that is not read without errors is not the one that is wanted
+  -- if the new text cannot be read without errors, the edit is refused
   pub not_made : (unlike : Located → Type 0) (reason : Refusal) → IsNotParsed reason text start end new → IsNotMade reason text start end new so unlike
   not_made unlike refusal.NotInText unread = unread
   not_made unlike refusal.HasErrors unread = unread
   not_made unlike refusal.ReadOtherwise unread = absurd unread
   not_made unlike refusal.NodeReadOtherwise unread = absurd unread
 
-  -- a text that is read so is the one that is wanted
+  -- if its tree is as required, the edit is made
   pub made_so : (made : List ℕ) (read : Reading) → made ≡ spliced text start end new → IsReadAs (spliced text start end new) read →
       so (root_of read) → IsMade text start end new so made
   made_so made read is h holds = record {
@@ -36,7 +36,7 @@ module _ (text : List ℕ) (start end : ℕ) (new : List ℕ) (so : Located → 
     };
   }
 
-  -- and if it is not read so, it is not
+  -- if its tree is not as required, the edit is refused
   pub otherwise : (unlike : Located → Type 0) (read : Reading) → IsReadAs (spliced text start end new) read → ¬ so (root_of read) →
       IsNotMade refusal.ReadOtherwise text start end new so unlike
   otherwise unlike read h fails = record {
@@ -71,7 +71,7 @@ kept_refused text start end new so (outcome.Refused reason) read h holds unlike 
 met_none : {X : Type 0} (front : List X) (x : X) (back : List X) → front ++ x ∷ back ≡ [] → ⊥
 met_none front x back none = absurd (omega (arith, ap length none, length-append front (x ∷ back)))
 
--- a change of a text without changes is refused, other than for memory, only where its range is not one of characters of the text
+-- a single change is refused, other than for memory, only if its range is not one of characters of the text
 pub not_in_text : (text : List ℕ) (start end : ℕ) (draft : Draft) (error : EditError) → draft ≡ record { text = text; changes = [] } →
     is_memory error ≡ false → IsCause error draft start end → ¬ (IsInside text start end × IsBetween text start end)
 not_in_text text start end draft cause.OutOfText is other why = λ both. subst (λ (d : Draft). ¬ IsInside d.text start end) is why both.0

@@ -2,13 +2,13 @@
 use Rattle.std.proofs.Common.{◌≡◌, ℕ, List, [], ◌∷◌, ◌++◌, take, drop, ap, arith}
 use Rattle.rnix_text.specs.Changes.{Change, Draft, changed_from, IsAdded}
 
--- a change that is put among none is the only one
+-- a change that is added to no others is the only one
 only_one : (c : Change) (front back old new : List Change) → old ≡ [] → old ≡ front ++ back → new ≡ front ++ c ∷ back → new ≡ c ∷ []
 only_one c [] [] old new none parts is = is
 only_one c [] (b ∷ back) old new none parts is = grind (arith, none, parts, is)
 only_one c (a ∷ front) back old new none parts is = grind (arith, none, parts, is)
 
--- the text of a draft to which its only change was added has that change, and is else as it was
+-- the text of a draft with only this change is the text with the change
 pub only_change : (c : Change) (text made : List ℕ) (old new : Draft) → old ≡ record { text = text; changes = [] } →
     new.text ≡ old.text → IsAdded c old.changes new.changes → made ≡ changed_from 0 new.changes new.text →
     made ≡ take c.start text ++ (c.new ++ drop c.end text)

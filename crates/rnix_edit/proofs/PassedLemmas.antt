@@ -1,4 +1,4 @@
--- A walk enters the node at a place before it leaves it.
+-- A walk enters a node before it leaves it.
 use Rattle.std.proofs.Common.{◌≡◌, ℕ, zero, suc, ◌+◌, ◌≤◌, inl, inr, length, List, [], ◌∷◌, ◌++◌, map, Bool, true, false, refl, ap, sym, subst, ◌∙◌, arith, append_assoc}
 use Rattle.std.proofs.lemmas.{List.{append-nil, map-append, get_or_past}, List.Folds.list_any-append, Bool.cases_lt}
 use Rattle.std.specs.{Prelude.{◌&&◌, ◌||◌, if◌then◌else◌}, List.list_any}
@@ -8,7 +8,7 @@ use Rattle.rnix_green.proofs.PartLemmas.{below_of_part, part_there, one_there}
 use Rattle.rnix_edit.specs.declared.node_range.NodeRange.{NodeRange}
 use Rattle.rnix_edit.specs.Steps.{is_at, has_node, leaves, events_inside, events_after, is_exited}
 
--- the node is left after it is entered, if at all
+-- if the node is left, it was entered before
 pub record IsPassed (target : NodeRange) (events : List Event) : Type 0 where
   pub after : events_after target events ≡ events_after target (events_inside target events)
   pub remaining : is_exited target events ≡ is_exited target (events_inside target events)
@@ -17,7 +17,7 @@ pub record IsPassed (target : NodeRange) (events : List Event) : Type 0 where
 abbrev is_there : NodeRange → Spot → Bool
 is_there target spot = spot.0 && is_at target spot.1
 
--- so it is where an element is entered first
+-- this holds if another event that enters an element comes first
 passed_enter : (target : NodeRange) (spot : Spot) (rest : List Event) → (is_there target spot ≡ false → IsPassed target rest) →
     IsPassed target ((true, spot) ∷ rest)
 passed_enter target spot rest later = record {
@@ -35,7 +35,7 @@ passed_enter target spot rest later = record {
       ] refl;
 }
 
--- and so where another element is left first
+-- this holds if an event that leaves another element comes first
 passed_leave : (target : NodeRange) (spot : Spot) (rest : List Event) → is_there target spot ≡ false → IsPassed target rest
     → IsPassed target ((false, spot) ∷ rest)
 passed_leave target spot rest other later = record {
@@ -43,7 +43,7 @@ passed_leave target spot rest other later = record {
   remaining = ap (λ b. b || is_exited target rest) other ∙ later.remaining;
 }
 
--- and so where the elements of a forest come first
+-- this holds if the events of a forest come first
 passed_row : (target : NodeRange) (t : Tree) (n : ℕ) (f : Forest) (rest : List Event) → IsPassed target rest →
     IsPassed target (map (event_at t) (steps_from n f) ++ rest)
 passed_row target t n empty rest later = later
@@ -60,13 +60,13 @@ passed_row target t n (node k c f) rest later =
     (λ other. passed_row target t (n + 1) c ((false, spot_at t n) ∷ (outer ++ rest))
     (passed_leave target (spot_at t n) (outer ++ rest) other (passed_row target t (n + 1 + element_count c) f rest later))))
 
--- and so in the walk over an element
+-- this holds in a walk over an element
 pub passed : (target : NodeRange) (root : Located) → IsPassed target (preorder_of root)
 passed target root =
     subst (IsPassed target) (append-nil (preorder_of root))
     (passed_row target root.tree root.number (part_at root) [] record { after = refl; remaining = refl })
 
--- whether a spot among others is the node at a place
+-- whether one of some spots is the node
 any_node : (target : NodeRange) (spot : Spot) (spots : List Spot) →
     list_any (is_at target) (nodes_in (spot ∷ spots)) ≡ (is_there target spot || list_any (is_at target) (nodes_in spots))
 any_node target spot spots =
@@ -76,7 +76,7 @@ any_node target spot spots =
       | false ↦ refl
     ]
 
--- and among two lists of spots
+-- the same for two joined lists of spots
 any_nodes : (target : NodeRange) (xs ys : List Spot) →
     list_any (is_at target) (nodes_in (xs ++ ys)) ≡ (list_any (is_at target) (nodes_in xs) || list_any (is_at target) (nodes_in ys))
 any_nodes target [] ys = refl
@@ -88,7 +88,7 @@ any_nodes target (x ∷ xs) ys =
     or_assoc true b c = refl
     or_assoc false b c = refl
 
--- two counts, one after the other
+-- `a + b` numbers are the first `a` and the next `b`
 counted_both : (n a b : ℕ) → counted n (a + b) ≡ counted n a ++ counted (n + a) b
 counted_both n zero b =
     let same : b ≡ 0 + b = omega arith in
@@ -99,7 +99,7 @@ counted_both n (suc a) b =
     let from : n + 1 + a ≡ n + suc a = omega arith in
     ap (counted n) count ∙ ap (λ ns. n ∷ ns) (counted_both (n + 1) a b ∙ ap (λ m. counted (n + 1) a ++ counted m b) from)
 
--- the node at a place is left in the walk over a forest just if it is one of the elements there
+-- a walk over a forest leaves the node exactly if it is one of the forest's elements
 exited_siblings : (target : NodeRange) (t : Tree) (n : ℕ) (f : Forest) →
     is_exited target (map (event_at t) (steps_from n f)) ≡ list_any (is_at target) (nodes_in (map (spot_at t) (counted n (element_count f))))
 exited_siblings target t n empty = refl
@@ -137,7 +137,7 @@ no_nodes t n (suc k) beyond =
     ap (λ (i : Item). if i.is_node then record { tree = t; number = n } ∷ rest else rest) (get_or_past (items_of t) n no_item beyond)
     ∙ no_nodes t (n + 1) k (omega (arith, beyond))
 
--- the node at a place is left in the walk over an element just if it is inside that
+-- a walk over an element leaves the node exactly if it is inside the element
 pub remaining_or_not : (target : NodeRange) (root : Located) → is_exited target (preorder_of root) ≡ has_node target root
 remaining_or_not target root =
     let t = root.tree in

@@ -1,4 +1,4 @@
--- The elements after a node on its line, and those in it.
+-- The elements after a node on its line.
 use Rattle.std.proofs.Common.{◌≡◌, ℕ, ◌<◌, true, false, List, ◌∷◌, length, drop, Option, Some, None, sym, ap, ◌∙◌, arith}
 use Rattle.std.proofs.lemmas.Bool.Decides.{nat_tests}
 use Rattle.std.specs.{Prelude.{◌-◌, nat_lt, if◌then◌else◌}, List.{position_or_len, after_first}, Iterator.YieldsFirstBy}
@@ -7,24 +7,24 @@ use Rattle.rnix_tree.specs.{Spots.spot_of, declared.element.NodeOrToken.NodeOrTo
 use Rattle.rnix_edit.specs.declared.line.{Part.Part, RestOfLine.RestOfLine}
 use Rattle.rnix_edit.specs.Line.{is_feed, second_line, part_of, rest_after, rest_from, token_start, closing_from}
 
--- without its first element, a walk is what is left of it
+-- the rest of a walk after its first element
 pub first_dropped : (old new : List Spot) (first : Option (NodeOrToken Located Located)) →
     YieldsFirstBy spot_of (λ (s : List Spot). s) old first new → new ≡ drop 1 old
 first_dropped old new None none = none.1 ∙ sym (ap (drop 1) none.0)
 first_dropped old new (Some element) next = sym (ap (drop 1) next)
 
--- one more element after a node is passed
+-- one more element after the node
 pub element_passed : (spots more : List Spot) (spot : Spot) (comments end : ℕ) (all : Option RestOfLine) (part : Part) → rest_from spots comments end ≡ all →
     spots ≡ spot ∷ more → part_of spot ≡ part → rest_after spot part (rest_from more) comments end ≡ all
 element_passed spots more spot comments end all part so_far next is =
     sym (ap (λ s. rest_from s comments end) next ∙ ap (λ p. rest_after spot p (rest_from more) comments end) is) ∙ so_far
 
--- one more child is passed
+-- one more child
 pub child_passed : (spots more : List Spot) (spot : Spot) (end closing new all : ℕ) → closing_from spots end closing ≡ all → spots ≡ spot ∷ more →
     new ≡ token_start end spot → closing_from more end new ≡ all
 child_passed spots more spot end closing new all so_far next is = ap (closing_from more end) is ∙ sym (ap (λ s. closing_from s end closing) next) ∙ so_far
 
--- a token without a line feed has one line
+-- a token without a line feed is on one line
 pub one_line : (e : Located) → position_or_len is_feed (text_at e) ≡ length (text_at e) → None ≡ second_line e
 one_line e none =
     let test : false ≡ nat_lt (position_or_len is_feed (text_at e)) (length (text_at e)) = grind (arith, nat_tests) in

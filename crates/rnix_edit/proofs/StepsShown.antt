@@ -1,4 +1,4 @@
--- The steps of a walk, by what its events show.
+-- The steps of a walk, from what its events show.
 use Rattle.std.proofs.Common.{◌≡◌, ◌≤◌, ◌<◌, ◌-◌, ◌==◌, ℕ, zero, suc, List, [], ◌∷◌, ◌++◌, length, get_or, map, flat_map, Bool, true, false, Option, Some, None, refl, ap, sym, ◌∙◌, subst, arith, append_assoc, length-append, inl, inr}
 use Rattle.std.proofs.lemmas.{List.append_cancel_left, Grind.flat_map-append, List.Elements.{All-nil, All-head, All-tail}, Bool.{cases_lt, Decides.nat_tests}}
 use Rattle.std.specs.{Prelude.{if◌then◌else◌, ◌&&◌}, List.All}
@@ -9,11 +9,11 @@ use Rattle.rnix_edit.specs.declared.node_range.NodeRange.{NodeRange}
 use Rattle.rnix_edit.specs.Steps.{Step, node_step, token_steps, step_at, steps_of, enters, events_before, events_inside, ArePassed}
 use Rattle.rnix_edit.proofs.StepLemmas.{RestContinues}
 
--- the step of an event that shows this
+-- the step of an event, from what it shows
 abbrev steps_shown : Shown → List Step
 steps_shown s = if s.is_node then node_step s.enters s.kind ∷ [] else (if s.enters then token_steps s.kind s.text else [])
 
--- an event shows all that its step says
+-- what an event shows determines its step
 step_shown : (event : Event) → step_at event ≡ steps_shown (shown_of event)
 step_shown event =
     elim event.1.0 as (λ b. (if b then node_step event.0 (item_of event.1.1).kind ∷ []
@@ -23,7 +23,7 @@ step_shown event =
       | false ↦ refl
     ]
 
--- so do the events of a walk
+-- what events show determines their steps
 all_shown : (events : List Event) → steps_of events ≡ flat_map steps_shown (map shown_of events)
 all_shown [] = refl
 all_shown (event ∷ events) = ap (λ steps. steps ++ steps_of events) (step_shown event) ∙ ap (λ steps. steps_shown (shown_of event) ++ steps) (all_shown events)
@@ -32,13 +32,13 @@ all_shown (event ∷ events) = ap (λ steps. steps ++ steps_of events) (step_sho
 same_steps : (passed twins : List Event) → map shown_of passed ≡ map shown_of twins → steps_of passed ≡ steps_of twins
 same_steps passed twins e = all_shown passed ∙ ap (flat_map steps_shown) e ∙ sym (all_shown twins)
 
--- the same steps come first in two walks, and these are left
+-- two walks begin with the same steps, and these steps remain
 pub record RestDecides (a b a_remaining b_remaining : List Step) : Type 0 where
   pub front : List Step
   pub first : a ≡ front ++ a_remaining
   pub second : b ≡ front ++ b_remaining
 
--- what is left of them is the same just if all was, and no more is left of each
+-- the remaining steps are the same exactly if all are, and there are no more of them
 pub alike_there : (a b a_remaining b_remaining : List Step) → RestDecides a b a_remaining b_remaining → a_remaining ≡ b_remaining → a ≡ b
 alike_there a b a_remaining b_remaining h rests = h.first ∙ ap (λ steps. h.front ++ steps) rests ∙ sym h.second
 
@@ -67,7 +67,7 @@ step_taken first all x y a b all_a all_b so_far one two same = record {
       cc;
 }
 
--- the second one continues with what is left of the first one just if all of it begins with all of that
+-- the second walk begins with the remaining steps of the first exactly if it begins with all of them
 pub alike_goes_on : (a b a_remaining b_remaining first all : List Step) → RestDecides a b a_remaining b_remaining → RestContinues first all a b
     → RestContinues first all a_remaining b_remaining
 alike_goes_on a b a_remaining b_remaining first all h so_far = record {
@@ -78,7 +78,7 @@ alike_goes_on a b a_remaining b_remaining first all h so_far = record {
       (sym h.second ∙ so_far.back rest e ∙ ap (λ steps. steps ++ rest) h.first ∙ append_assoc h.front a_remaining rest);
 }
 
--- walks that pass events that show the same continue by the same steps
+-- walks that pass events that show the same continue after the same steps
 rest_decides : (passed twins a b a_remaining b_remaining : List Event) → map shown_of passed ≡ map shown_of twins → a ≡ passed ++ a_remaining
     → b ≡ twins ++ b_remaining
     → RestDecides (steps_of a) (steps_of b) (steps_of a_remaining) (steps_of b_remaining)
@@ -103,7 +103,7 @@ ordered e = elim (cases_lt e.number (length (items_of e.tree))) [
     get_or_past (i ∷ is) zero l = absurd (omega (arith, l))
     get_or_past (i ∷ is) (suc n) l = get_or_past is n (omega (arith, l))
 
--- an element that ends before a place is not at it
+-- an element that ends before a node's start is not the node
 not_entered : (target : NodeRange) (event : Event) → EndsBefore target.start event → enters target event ≡ false
 not_entered target (false, spot) l = refl
 not_entered target (true, (false, e)) l = refl
@@ -119,7 +119,7 @@ not_entered target (true, (true, e)) l =
     and_false true = refl
     and_false false = refl
 
--- events of elements that end before a place are before the one that enters the node there
+-- events of elements that end before a node are before the node
 pub passed_before : (target : NodeRange) (passed rest : List Event) → All (EndsBefore target.start) passed
     → (events_before target (passed ++ rest) ≡ passed ++ events_before target rest) × (events_inside target (passed ++ rest) ≡ events_inside target rest)
 passed_before target [] rest all = (refl, refl)
@@ -142,7 +142,7 @@ none_passed before other_before a b = record {
   other_ends = All-nil (EndsBefore other_before);
 }
 
--- or those of siblings
+-- the events of siblings were passed
 pub as_passed : (before other_before : ℕ) (result : Option Bool) (a b a_remaining b_remaining : List Event)
     → PassesAlike before other_before result a b a_remaining b_remaining
     → ArePassed before other_before a b a_remaining b_remaining
@@ -162,13 +162,13 @@ as_passed before other_before (Some true) a b a_remaining b_remaining h = record
   other_ends = h.other_before;
 }
 
--- what is left of two walks that passed alike events
+-- the remaining events of two walks that passed alike events
 module _ (before other_before : ℕ) (a b a_remaining b_remaining : List Event) (h : ArePassed before other_before a b a_remaining b_remaining) where
-  -- continues alike
+  -- the steps before were the same
   pub passed_alike : RestDecides (steps_of a) (steps_of b) (steps_of a_remaining) (steps_of b_remaining)
   passed_alike = rest_decides h.passed h.twins a b a_remaining b_remaining h.alike h.first h.second
 
-  -- up to nodes at the offsets
+  -- the steps before nodes that start at the offsets
   before_first : (target : NodeRange) → before ≡ target.start
       → (events_before target (h.passed ++ a_remaining) ≡ h.passed ++ events_before target a_remaining)
       × (events_inside target (h.passed ++ a_remaining) ≡ events_inside target a_remaining)
@@ -179,21 +179,21 @@ module _ (before other_before : ℕ) (a b a_remaining b_remaining : List Event) 
       × (events_inside target (h.twins ++ b_remaining) ≡ events_inside target b_remaining)
   before_second target e = passed_before target h.twins b_remaining (subst (λ n. All (EndsBefore n) h.twins) e h.other_ends)
 
-  -- the nodes there are entered as before
+  -- the events inside such a node are among the remaining ones
   pub inside_first : (target : NodeRange) → before ≡ target.start → events_inside target a_remaining ≡ events_inside target a
   inside_first target e = sym (ap (events_inside target) h.first ∙ (before_first target e).1)
 
   pub inside_second : (target : NodeRange) → other_before ≡ target.start → events_inside target b_remaining ≡ events_inside target b
   inside_second target e = sym (ap (events_inside target) h.second ∙ (before_second target e).1)
 
-  -- in the first walk up to the node, in the second one to its end
+  -- the steps of the first walk up to the node, and of the second one to its end
   pub alike_before : (target : NodeRange) → before ≡ target.start
       → RestDecides (steps_of (events_before target a)) (steps_of b) (steps_of (events_before target a_remaining)) (steps_of b_remaining)
   alike_before target e =
       rest_decides h.passed h.twins (events_before target a) b (events_before target a_remaining) b_remaining h.alike
       (ap (events_before target) h.first ∙ (before_first target e).0) h.second
 
-  -- in both up to nodes
+  -- the steps of both walks up to their nodes
   pub both_before : (target other : NodeRange) → before ≡ target.start → other_before ≡ other.start
       → RestDecides (steps_of (events_before target a)) (steps_of (events_before other b)) (steps_of (events_before target a_remaining))
       (steps_of (events_before other b_remaining))

@@ -1,4 +1,4 @@
--- What is around a node of a tree, and where the node is.
+-- The context of a node in a tree: the trees around the node, and its place among them.
 use Rattle.std.proofs.Common.{◌≡◌, ℕ, zero, suc, ◌+◌, ◌-◌, ◌≤◌, ◌<◌, ◌++◌, length, Option, Some, None, true, refl, ap, sym, ◌∙◌}
 use Rattle.std.proofs.Common.{subst, arith, append_assoc, length-append}
 use Rattle.rnix_kinds.specs.declared.kinds.SyntaxKind.{SyntaxKind}
@@ -10,7 +10,7 @@ use Rattle.rnix_green.proofs.NestLemmas as n
 use Rattle.rnix_green.proofs.NestLemmas.{at, behind}
 use Rattle.rnix_green.proofs.InsideLemmas.{elements_in_all}
 
--- an element of trees is a node, and this is around it
+-- an element of a forest is a node with a context
 pub record HasContext (f : Forest) (m : ℕ) : Type 0 where
   pub place : Context
   pub kind : SyntaxKind
@@ -18,7 +18,7 @@ pub record HasContext (f : Forest) (m : ℕ) : Type 0 where
   pub is : f ≡ filled place kind children
   pub number : elements_before place ≡ m
 
--- something is around each node of a forest
+-- each node of a forest has a context
 pub find_context : (i s : ℕ) (p : Option ℕ) (f : Forest) (m : ℕ) → m < element_count f → (at i s p f m).is_node ≡ true → HasContext f m
 find_context i s p empty m l e = absurd (omega arith)
 find_context i s p (leaf k t f) zero l e = absurd (cc)
@@ -43,25 +43,25 @@ find_context i s p (node k c f) (suc m) l e = elim (behind i s p k c f m) as (λ
       }
 ]
 
--- something is around each node of a tree
+-- each node of a tree has a context
 pub found : (t : Tree) (m : ℕ) → IsNodeIn t m → HasContext (forest_of t) m
 found t m h = find_context 0 0 None (forest_of t) m (omega (arith, h.is_there, elements_in_all t)) h.is_node
 
--- the number of the parent of a node, in a forest whose first element has the number i and the parent p
+-- the number of the parent of the node in a context, in a forest whose first element has the number `i` and the parent `p`
 abbrev pub parent_around : ℕ → Option ℕ → Context → Option ℕ
 parent_around i p (here f) = p
 parent_around i p (behind_leaf j t x) = parent_around (i + 1) p x
 parent_around i p (behind_node j d x) = parent_around (i + 1 + element_count d) p x
 parent_around i p (inside j x f) = parent_around (i + 1) (Some i) x
 
--- the node is among the elements
+-- the node in a context is among the elements
 pub count_around : (x : Context) (k : SyntaxKind) (c : Forest) → elements_before x + suc (element_count c) ≤ element_count (filled x k c)
 count_around (here f) k c = omega arith
 count_around (behind_leaf j t x) k c = omega (arith, count_around x k c)
 count_around (behind_node j d x) k c = omega (arith, count_around x k c)
 count_around (inside j x f) k c = omega (arith, count_around x k c)
 
--- what the node shows
+-- the item of the node in a context
 pub record IsPlaced (i s : ℕ) (p : Option ℕ) (x : Context) (k : SyntaxKind) (c : Forest) (shown : Item) : Type 0 where
   pub kind : shown.kind ≡ k
   pub is_node : shown.is_node ≡ true
@@ -70,7 +70,7 @@ pub record IsPlaced (i s : ℕ) (p : Option ℕ) (x : Context) (k : SyntaxKind) 
   pub parent : shown.parent ≡ parent_around i p x
   pub below : shown.below ≡ element_count c
 
--- where a node is in a forest
+-- the node in a context has its number and item in the forest
 pub placed_in : (i s : ℕ) (p : Option ℕ) (x : Context) (k : SyntaxKind) (c : Forest) → IsPlaced i s p x k c (at i s p (filled x k c) (elements_before x))
 placed_in i s p (here f) k c = record { kind = refl; is_node = refl; start = omega arith; end = omega arith; parent = refl; below = refl }
 placed_in i s p (behind_leaf j t x) k c =
@@ -115,24 +115,24 @@ placed_in i s p (inside j x f) k c =
       | n.beyond high y ↦ absurd (omega (arith, count_around x k c))
     ]
 
--- where a node is in a tree
+-- the node in a context has its number and item in the tree
 pub placed : (t : Tree) (x : Context) (k : SyntaxKind) (c : Forest) → forest_of t ≡ filled x k c → IsPlaced 0 0 None x k c (item t (elements_before x))
 placed t x k c e = subst (λ f. IsPlaced 0 0 None x k c (at 0 0 None f (elements_before x))) (sym e) (placed_in 0 0 None x k c)
 
--- what a node shows of its place in a tree
+-- the item of the node in a context, apart from its parent
 pub record IsShown (x : Context) (k : SyntaxKind) (c : Forest) (shown : Item) : Type 0 where
   pub kind : shown.kind ≡ k
   pub start : shown.start ≡ length (text_before x)
   pub end : shown.end ≡ length (text_before x) + length (text_of c)
   pub below : shown.below ≡ element_count c
 
--- the kind, the range and the size of a node of a tree
+-- the kind, the range and the size of the node in a context
 pub shown : (t : Tree) (n : ℕ) (x : Context) (k : SyntaxKind) (c : Forest) → forest_of t ≡ filled x k c → elements_before x ≡ n → IsShown x k c (item t n)
 shown t n x k c e m =
     let is : IsPlaced 0 0 None x k c (item t n) = subst (λ i. IsPlaced 0 0 None x k c (item t i)) m (placed t x k c e) in
     record { kind = is.kind; start = omega (arith, is.start); end = omega (arith, is.end); below = is.below }
 
--- the text of the trees around a node
+-- the text of a context with a node is the text before the node, the node's, and the text after it
 pub text_filled : (x : Context) (k : SyntaxKind) (c : Forest) → text_of (filled x k c) ≡ text_before x ++ (text_of c ++ text_after x)
 text_filled (here f) k c = refl
 text_filled (behind_leaf j t x) k c = ap (λ z. t ++ z) (text_filled x k c) ∙ sym (append_assoc t (text_before x) (text_of c ++ text_after x))
@@ -142,7 +142,7 @@ text_filled (inside j x f) k c =
     ap (λ z. z ++ text_of f) (text_filled x k c) ∙ append_assoc (text_before x) (text_of c ++ text_after x) (text_of f)
     ∙ ap (λ z. text_before x ++ z) (append_assoc (text_of c) (text_after x) (text_of f))
 
--- how long the text of the trees around a node is
+-- its length is the sum of these
 pub length_filled : (x : Context) (k : SyntaxKind) (c : Forest) →
     length (text_of (filled x k c)) ≡ length (text_before x) + length (text_of c) + length (text_after x)
 length_filled x k c =
@@ -153,14 +153,14 @@ length_filled x k c =
       length-append (text_of c) (text_after x),
     )
 
--- the leaves of the trees around a node are UTF-8 with another node there
+-- if the leaves of a context with a node are UTF-8, so are those with another node in it
 pub characters_filled : (x : Context) (k j : SyntaxKind) (c d : Forest) → HasText (filled x k c) → HasText d → HasText (filled x j d)
 characters_filled (here f) k j c d h g = (g, h.1)
 characters_filled (behind_leaf i t x) k j c d h g = (h.0, characters_filled x k j c d h.1 g)
 characters_filled (behind_node i e x) k j c d h g = (h.0, characters_filled x k j c d h.1 g)
 characters_filled (inside i x f) k j c d h g = (characters_filled x k j c d h.0 g, h.1)
 
--- how many elements the trees around a node have with it
+-- a context with a node has the elements of the context, and those of the node
 pub count_filled : (x : Context) (k j : SyntaxKind) (c d : Forest) →
     element_count (filled x k c) + element_count d ≡ element_count (filled x j d) + element_count c
 count_filled (here f) k j c d = omega arith

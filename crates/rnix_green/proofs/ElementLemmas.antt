@@ -1,4 +1,4 @@
--- What is kept of an element tells what it shows.
+-- The stored form of an element determines its item.
 use Rattle.std.proofs.Common.{◌≡◌, ℕ, zero, suc, ◌+◌, ◌-◌, ◌≤◌, ◌<◌, List, [], ◌∷◌, ◌++◌, length, map, get_or, Option, Some, None, Bool, true, false, nat_lt}
 use Rattle.std.proofs.{Common.{cond, refl, ap, sym, ◌∙◌, subst, arith, length-append}, lemmas.List.{get_or-map, length-map, map-append, get_or-append_right}}
 use Rattle.{std.proofs.lemmas.List.get_or_past, rnix_kinds.specs.declared.kinds.SyntaxKind.SyntaxKind, rnix_green.specs.declared.packed.Packed.Packed}
@@ -8,11 +8,11 @@ use Rattle.rnix_green.{specs.Kept.IsKept, proofs.{NumberTests.is_below, PackedLe
 use Rattle.rnix_green.proofs.{ParentLemmas.parent_is_before, SiblingLemmas.{below_fits, next_inside}, NestLemmas.{at, inside, beyond, behind}}
 use Rattle.rnix_green.proofs.{InsideLemmas.{elements_in_all, has_parent, leaf_holds_nothing}, StartLemmas.in_text}
 
--- as many as the tree has
+-- as many elements are stored as the tree has
 pub length_kept : (t : Tree) (es : List Packed) (text : List ℕ) → IsKept t es text → length es ≡ length (items_of t)
 length_kept t es text h = ap length h.elements ∙ length-map (items_of t) kept_of
 
--- an element is that of the tree with the number n
+-- a stored element is the one with the number `n` of the tree
 pub record IsElement (t : Tree) (n : ℕ) (e : Packed) : Type 0 where
   pub kind : e.kind ≡ (item t n).kind
   pub len_or_start : len_or_start_in e ≡ (item t n).start
@@ -27,7 +27,7 @@ parent_fits : (t : Tree) (n : ℕ) (p : Option ℕ) → (item t n).parent ≡ p 
 parent_fits t n None e l = omega arith
 parent_fits t n (Some q) e l = omega (arith, parent_is_before t n q l e)
 
--- an element that is kept is that of the tree
+-- so is each stored element of a tree
 pub element_of : (t : Tree) (es : List Packed) (text : List ℕ) (n : ℕ) (d : Packed) → IsKept t es text → n < length (items_of t) → IsElement t n (get_or es n d)
 element_of t es text n d h l =
     let i = item t n in
@@ -42,7 +42,7 @@ element_of t es text n d h l =
       size = ap size_in is ∙ packed_again (size_of i) (omega (arith, size_fits i.is_node i (length (items_of t)) refl (omega (arith, next_inside t n l))));
     }
 
--- so is one that was read
+-- so is a stored element that was read
 pub element_read : (t : Tree) (es : List Packed) (text : List ℕ) (n : ℕ) (e : Packed) → IsKept t es text → n < length (items_of t) → e ≡ get_or es n e
     → IsElement t n e
 element_read t es text n e h l r = subst (IsElement t n) (sym r) (element_of t es text n e h l)
@@ -77,11 +77,11 @@ get_or_row [] vs (suc k) d l = absurd (omega arith)
 get_or_row (u ∷ us) vs zero d l = refl
 get_or_row (u ∷ us) vs (suc k) d l = get_or_row us vs k d (omega arith)
 
--- what follows the first of a list
+-- the second and later elements of a list are those of its tail
 behind_first : (u : ℕ) (us : List ℕ) (k j d : ℕ) → k ≡ suc j → get_or (u ∷ us) k d ≡ get_or us j d
 behind_first u us k j d e = ap (λ i. get_or (u ∷ us) i d) e
 
--- so it is where an element ends in a forest, m elements after its first
+-- an element of a forest, `m` after the first one, ends where the element after its last one starts
 abbrev EndsAtNext : ℕ → ℕ → Option ℕ → Forest → ℕ → ℕ → Type 0
 EndsAtNext n s p f m d = (at n s p f m).end ≡ get_or (starts n s p f) (m + 1 + (at n s p f m).below) d
 
@@ -130,7 +130,7 @@ module _ (n s : ℕ) (p : Option ℕ) (k : SyntaxKind) (c f : Forest) (d : ℕ) 
       ∙ sym (ap (λ z. get_or z (suc m + 1 + b) d) split ∙ behind_first s (xs ++ ys) (suc m + 1 + b) (m + 1 + b) d (omega arith))
       ∙ ap (λ (i : Item). get_or (starts n s p (node k c f)) (suc m + 1 + i.below) d) (sym e)
 
--- an element ends where the next one after it starts
+-- each element of a forest ends where the element after its last one starts
 ends_at_next : (n s : ℕ) (p : Option ℕ) (f : Forest) (m d : ℕ) → m < element_count f → d ≡ s + length (text_of f) → EndsAtNext n s p f m d
 ends_at_next n s p empty m d l e = absurd (omega arith)
 ends_at_next n s p (leaf k t f) zero d l e = sym (first_start (n + 1) (s + length t) p f d (omega (arith, length-append t (text_of f))))
@@ -148,33 +148,33 @@ ends_at_next n s p (node k c f) (suc m) d l e =
           (ends_at_next (n + 1 + element_count c) (s + length (text_of c)) p f (m - element_count c) d (omega arith) whole) x
     ]
 
--- an element of a tree ends where the next one after it starts
+-- each element of a tree ends where the element after its last one starts
 end_by : (t : Tree) (n : ℕ) → n < length (items_of t) → start_at t (n + 1 + (item t n).below) ≡ (item t n).end
 end_by t n l = sym (ends_at_next 0 0 None (forest_of t) n (length (text_of (forest_of t))) (omega (arith, elements_in_all t)) (omega arith))
 
--- where the element of a number starts that is there
+-- the start that is read for a number is that of the element with the number, if there is one
 pub start_there : (t : Tree) (n : ℕ) → n < length (items_of t) → start_at t n ≡ (item t n).start
 start_there t n l = get_or-map (λ (i : Item). i.start) (items_of t) n no_item (length (text_of (forest_of t))) l
 
--- and where none is
+-- if there is none, it is the end of the text
 pub start_past : (t : Tree) (n : ℕ) → length (items_of t) ≤ n → start_at t n ≡ length (text_of (forest_of t))
 start_past t n l =
     get_or_past (map (λ (i : Item). i.start) (items_of t)) n (length (text_of (forest_of t))) (omega (arith, length-map (items_of t) (λ (i : Item). i.start)))
 
--- how many elements are inside one that was read
+-- the number of elements inside one that was read
 pub below_read : (t : Tree) (n : ℕ) (e : Packed) → n < length (items_of t) → IsElement t n e → size_in e - 1 ≡ (item t n).below
 below_read t n e l h = ap (λ s. s - 1) h.size ∙ below_by t n (item t n).is_node l refl
 
--- where it ends
+-- the end of an element that was read
 pub end_read : (t : Tree) (n : ℕ) (e : Packed) → n < length (items_of t) → IsElement t n e → start_at t (n + 1 + (size_in e - 1)) ≡ (item t n).end
 end_read t n e l h = ap (λ b. start_at t (n + 1 + b)) (below_read t n e l h) ∙ end_by t n l
 
--- it does not end before it starts
+-- an element that was read does not end before it starts
 pub read_in_order : (t : Tree) (n : ℕ) (e : Packed) → n < length (items_of t) → IsElement t n e → len_or_start_in e ≤ start_at t (n + 1 + (size_in e - 1))
 read_in_order t n e l h =
     omega (arith, h.len_or_start, end_read t n e l h, (in_text 0 0 None (forest_of t) n (omega (arith, elements_in_all t))).ordered)
 
--- what it shows
+-- the item of an element that was read
 pub item_read : (t : Tree) (n : ℕ) (e : Packed) → n < length (items_of t) → IsElement t n e →
     item_from
     record {

@@ -1,4 +1,4 @@
--- How the entries of a builder make trees.
+-- The builder's entries determine its trees.
 use Rattle.std.proofs.Common.{◌≡◌, ℕ, zero, suc, ◌+◌, ◌-◌, ◌≤◌, ◌<◌, List, [], ◌∷◌, ◌++◌, length, take, drop, get_or, map, true, refl, ap, sym, ◌∙◌, arith}
 use Rattle.std.proofs.{Common.{append_assoc, length-append, inl, inr}, lemmas.List.{take_all, take_more, reverse-append, length-map}}
 use Rattle.std.proofs.lemmas.{List.{map-append, take_at, drop_at, append-nil, length_push, length-take-le, get_or_past}, Bool.{cases_lt, and_parts}}
@@ -11,7 +11,7 @@ use Rattle.rnix_green.specs.{Entries.{IsDraft, Holds, AreSame, IsAdded}, Draft.{
 use Rattle.rnix_green.proofs.ForestLemmas.{tree_count-join, tree_count-first, element_count-join, text_of-join, join_assoc, join_first_after}
 use Rattle.rnix_green.proofs.PostorderLemmas.{entries_of-join, length-post_of, packed_leaf, packed_node}
 
--- the first of two forests, by its elements
+-- the first of two joined forests, by the number of its elements
 pub first_elements-join : (f g : Forest) → first_elements (element_count f) (join f g) ≡ f
 first_elements-join empty g = refl
 first_elements-join (leaf k t f) g = ap (leaf k t) (first_elements-join f g)
@@ -19,7 +19,7 @@ first_elements-join (node k c f) g =
     let same : element_count c + element_count f - element_count c ≡ element_count f = omega arith in
     ap (node k c) (ap (λ n. first_elements n (join f g)) same ∙ first_elements-join f g)
 
--- and the second
+-- the second of two joined forests
 pub elements_after-join : (f g : Forest) → elements_after (element_count f) (join f g) ≡ g
 elements_after-join empty g = refl
 elements_after-join (leaf k t f) g = elements_after-join f g
@@ -34,7 +34,7 @@ wrapped_last-join k f c =
     ∙ ap (λ x. join x (node k (elements_after (element_count f) (join f c)) empty)) (first_elements-join f c)
     ∙ ap (λ x. join f (node k x empty)) (elements_after-join f c)
 
--- entries of a forest make that forest
+-- the entries of a forest, put onto another forest, add that forest to it
 pub built_onto-entries : (g f : Forest) (rest : List ℕ) (es : List Entry) →
     built_onto g (text_of f ++ rest) (entries_of f ++ es) ≡ built_onto (join g f) rest es
 built_onto-entries g empty rest es = ap (λ x. built_onto x rest es) (sym (join_empty g))
@@ -52,24 +52,24 @@ built_onto-entries g (node k c f) rest es =
     ∙ built_onto-entries (join g (node k c empty)) f rest es
     ∙ ap (λ x. built_onto x rest es) (join_assoc g (node k c empty) f)
 
--- the entries of a forest make it again
+-- the entries of a forest make that forest
 pub built-entries : (f : Forest) → built (text_of f) (entries_of f) ≡ f
 built-entries f =
     ap (λ x. built x (entries_of f)) (sym (append-nil (text_of f))) ∙ ap (λ x. built (text_of f ++ []) x) (sym (append-nil (entries_of f)))
     ∙ built_onto-entries empty f [] []
 
--- what the entries make of the text is the draft
+-- a draft that the entries represent is the one that they make of the text
 pub draft_is : (text : List ℕ) (es : List Packed) (os : List Pending) (st : List ℕ) (d : Draft) → IsDraft text es os st d → draft_of text es os ≡ d
 draft_is text es os st d h =
     ap (λ (f : Forest). let x : Draft = record { finished = f; open_nodes = open_pairs os } in x) (rw (h.entries, h.text_is) (built-entries d.finished))
     ∙ ap (λ (ps : List OpenNode). let x : Draft = record { finished = d.finished; open_nodes = ps } in x) (sym h.pending_is)
 
--- and so may stand for it
+-- so the entries represent the draft that they make of the text
 pub settled : (text : List ℕ) (es : List Packed) (os : List Pending) (st : List ℕ) (d : Draft) → IsDraft text es os st d →
     IsDraft text es os st (draft_of text es os)
 settled text es os st d h = rw (draft_is text es os st d h) h
 
--- where the trees of two forests begin
+-- the starts of the trees of two joined forests are those of both
 pub starts_from-join : (n : ℕ) (f g : Forest) → starts_from n (join f g) ≡ starts_from n f ++ starts_from (n + element_count f) g
 starts_from-join n empty g = ap (λ m. starts_from m g) (omega arith)
 starts_from-join n (leaf k t f) g =
@@ -77,7 +77,7 @@ starts_from-join n (leaf k t f) g =
 starts_from-join n (node k c f) g =
     ap (λ x. n ∷ x) (starts_from-join (n + 1 + element_count c) f g ∙ ap (λ m. starts_from (n + 1 + element_count c) f ++ starts_from m g) (omega arith))
 
--- a tree begins after the elements of those before it
+-- a tree begins after the elements of the trees before it
 pub start_at : (n : ℕ) (f : Forest) (p d : ℕ) → p < tree_count f → get_or (starts_from n f) p d ≡ n + element_count (first_trees p f)
 start_at n empty p d h = absurd (omega arith)
 start_at n (leaf k t f) zero d h = omega arith
@@ -85,14 +85,14 @@ start_at n (leaf k t f) (suc p) d h = omega (arith, start_at (n + 1) f p d (omeg
 start_at n (node k c f) zero d h = omega arith
 start_at n (node k c f) (suc p) d h = omega (arith, start_at (n + 1 + element_count c) f p d (omega arith))
 
--- where the first trees begin
+-- the starts of the first trees
 pub take-starts_from : (n : ℕ) (f : Forest) (p : ℕ) → take p (starts_from n f) ≡ starts_from n (first_trees p f)
 take-starts_from n f zero = refl
 take-starts_from n empty (suc p) = refl
 take-starts_from n (leaf k t f) (suc p) = ap (λ x. n ∷ x) (take-starts_from (n + 1) f p)
 take-starts_from n (node k c f) (suc p) = ap (λ x. n ∷ x) (take-starts_from (n + 1 + element_count c) f p)
 
--- the first trees of a short forest are all of it
+-- if a forest has at most `n` trees, its first `n` are all of it
 pub first_trees_all : (n : ℕ) (f : Forest) → tree_count f ≤ n → first_trees n f ≡ f
 first_trees_all n empty h = elim n as (λ m. first_trees m empty ≡ empty) [ zero ↦ refl | suc m ↦ refl ]
 first_trees_all zero (leaf k t f) h = absurd (omega arith)
@@ -100,20 +100,20 @@ first_trees_all (suc n) (leaf k t f) h = ap (leaf k t) (first_trees_all n f (ome
 first_trees_all zero (node k c f) h = absurd (omega arith)
 first_trees_all (suc n) (node k c f) h = ap (node k c) (first_trees_all n f (omega arith))
 
--- two forests with text have text
+-- if the leaves of two forests are UTF-8, so are those of both joined
 pub HasText-join : (f g : Forest) → HasText f → HasText g → HasText (join f g)
 HasText-join empty g h i = i
 HasText-join (leaf k t f) g h i = (h.0, HasText-join f g h.1 i)
 HasText-join (node k c f) g h i = (h.0, HasText-join f g h.1 i)
 
--- so have the first trees
+-- so are those of the first trees
 pub HasText-first : (n : ℕ) (f : Forest) → HasText f → HasText (first_trees n f)
 HasText-first zero f h = tt
 HasText-first (suc n) empty h = tt
 HasText-first (suc n) (leaf k t f) h = (h.0, HasText-first n f h.1)
 HasText-first (suc n) (node k c f) h = (h.0, HasText-first n f h.1)
 
--- and those after them
+-- so are those of the trees after them
 pub HasText-after : (n : ℕ) (f : Forest) → HasText f → HasText (trees_after n f)
 HasText-after zero f h = h
 HasText-after (suc n) empty h = tt
@@ -124,18 +124,18 @@ HasText-after (suc n) (node k c f) h = HasText-after n f h.1
 pub tree_count-with_leaf : (k : SyntaxKind) (t : List ℕ) (f : Forest) → tree_count (with_leaf k t f) ≡ tree_count f + 1
 tree_count-with_leaf k t f = tree_count-join f (leaf k t empty)
 
--- a node in place of the trees from a place on
+-- a node that replaces the trees from a position on leaves the trees before it, and one
 pub tree_count-wrapped : (k : SyntaxKind) (p : ℕ) (f : Forest) → p ≤ tree_count f → tree_count (wrapped k p f) ≡ p + 1
 tree_count-wrapped k p f h = omega (arith, tree_count-join (first_trees p f) (node k (trees_after p f) empty), tree_count-first p f h)
 
--- the last node is the innermost
+-- the last of the open nodes is the innermost
 pub open_pairs-last : (os : List Pending) (n : ℕ) (o : Pending) → n < length os → n + 1 ≡ length os → get_or os n o ≡ o →
     open_pairs os ≡ (o.kind, o.first_child) ∷ open_pairs (take n os)
 open_pairs-last os n o l e is =
     let all : os ≡ take n os ++ o ∷ [] = sym (take_all (n + 1) os (omega arith)) ∙ take_more os n o l ∙ ap (λ x. take n os ++ x ∷ []) is in
     ap open_pairs all ∙ (rw (reverse-append (take n os) (o ∷ [])) refl)
 
--- and so with more trees
+-- open nodes are also nested among more trees
 pub IsNested-weaker : (n m : ℕ) (os : List (SyntaxKind × ℕ)) → n ≤ m → IsNested n os → IsNested m os
 IsNested-weaker n m [] l h = tt
 IsNested-weaker n m ((k, p) ∷ os) l h = (omega arith, h.1)
@@ -144,11 +144,11 @@ IsNested-weaker n m ((k, p) ∷ os) l h = (omega arith, h.1)
 pub entries_push : (es more : List Packed) (x : Packed) (n : Entry) → more ≡ es ++ x ∷ [] → entry_of x ≡ n → map entry_of more ≡ map entry_of es ++ n ∷ []
 entries_push es more x n e is = ap (map entry_of) e ∙ map-append entry_of es (x ∷ []) ∙ ap (λ y. map entry_of es ++ y ∷ []) is
 
--- as many entries as the trees have elements
+-- there are as many entries as elements
 pub entry_count : (text : List ℕ) (e : Entries) (d : Draft) → Holds text e d → length e.elements.items ≡ element_count d.finished
 entry_count text e d h = sym (length-map e.elements.items entry_of) ∙ ap length h.entries ∙ length-post_of d.finished
 
--- entries with one more tree
+-- the entries with those of one more tree
 held-tree : (g : Forest) (text part : List ℕ) (e later : Entries) (d : Draft) → Holds text e d → HasText g → tree_count g ≡ 1 →
     starts_from (element_count d.finished) g ≡ element_count d.finished ∷ [] → part ≡ text_of g → length text + length part < limit →
     length later.elements.items < limit → map entry_of later.elements.items ≡ map entry_of e.elements.items ++ entries_of g →
@@ -171,7 +171,7 @@ held-tree g text part e later d h u one first le short few mo sta same =
       few = few;
     }
 
--- one more token
+-- the entries with one more token
 pub held-token : (k : SyntaxKind) (e later : Entries) → length e.elements.items + 1 < limit → later.pending.items ≡ e.pending.items →
     later.starts.items ≡ e.starts.items ++ length e.elements.items ∷ [] → (len : ℕ) → later.elements.items ≡ e.elements.items ++ packed k len 0 0 ∷ [] →
     IsAdded e later len (leaf_added k)
@@ -180,7 +180,7 @@ held-token k e later few same sta len mo text part d h u is short =
     held-tree (leaf k part empty) text part e later d h (u, tt) refl refl (sym (append-nil part)) (omega arith)
     (omega (arith, ap length mo, length_push e.elements.items (packed k len 0 0))) (entries_push e.elements.items later.elements.items _ _ mo entry) sta same
 
--- one more node, over one token
+-- the entries with one more node over one token
 pub held-leaf_node : (i k : SyntaxKind) (e later : Entries) (both : List Packed) → length e.elements.items + 2 < limit → later.pending.items ≡ e.pending.items →
     later.starts.items ≡ e.starts.items ++ length e.elements.items ∷ [] → (len : ℕ) → both ≡ e.elements.items ++ packed k len 0 0 ∷ [] →
     later.elements.items ≡ both ++ packed i 0 0 2 ∷ [] → IsAdded e later len (leaf_node_added i k)
@@ -195,7 +195,7 @@ held-leaf_node i k e later both few same sta len bo mo text part d h u is short 
     (held-tree (node i (leaf k part empty) empty) text part e later d h ((u, tt), tt) refl refl text_is (omega arith)
     (omega (arith, ap length mo, length_push both (packed i 0 0 2), ap length bo, length_push es (packed k len 0 0))) entries sta same)
 
--- a tree is added to the draft that the entries make, after room was made for it
+-- adding a tree keeps the entries right, after room was made for it
 pub held-added : (text part whole : List ℕ) (e mid later : Entries) (added : List ℕ → Draft → Draft) → Holds text e (draft_in text e) → AreSame e mid →
     IsAdded mid later (length part) added → IsUtf8 part → length text + length part < limit → whole ≡ text ++ part →
     Holds whole later (draft_in whole later) × (draft_in whole later ≡ added part (draft_in text e))
@@ -204,7 +204,7 @@ held-added text part whole e mid later added h same a u short w =
     let after : Holds whole later (added part (draft_in text e)) = rw w (a text part (draft_in text e) before u refl short) in
     (settled _ _ _ _ _ after, draft_is _ _ _ _ _ after)
 
--- where the first entry of the trees from a place on is
+-- the first entry of the trees from a position on
 pub first_entry : (text : List ℕ) (e : Entries) (d : Draft) (p : ℕ) → Holds text e d →
     get_or e.starts.items p (length e.elements.items) ≡ element_count (first_trees p d.finished)
 first_entry text e d p h =
@@ -218,7 +218,7 @@ first_entry text e d p h =
           get_or_past e.starts.items p end l ∙ entry_count text e d h ∙ ap element_count (sym (first_trees_all p d.finished in_range))
     ]
 
--- no open node begins after the entries
+-- no open node begins after the last entry
 pub first_entry_le : (text : List ℕ) (e : Entries) (d : Draft) (p : ℕ) → Holds text e d →
     get_or e.starts.items p (length e.elements.items) ≤ length e.elements.items
 first_entry_le text e d p h =
@@ -230,7 +230,7 @@ first_entry_le text e d p h =
       ap element_count (join_first_after p d.finished),
     )
 
--- the innermost node is closed
+-- closing the innermost node keeps the entries right
 pub held-closed : (text : List ℕ) (e later : Entries) (d : Draft) (j : ℕ) (o : Pending) → Holds text e d →
     let first = get_or e.starts.items o.first_child (length e.elements.items) in
     length e.elements.items + 1 < limit → j + 1 ≡ length e.pending.items → o ≡ get_or e.pending.items j o →
@@ -284,6 +284,6 @@ held-closed text e later d j o h room en is pushed ou sta =
       few = omega (arith, ap length pushed, length_push e.elements.items (packed o.kind 0 0 (below + 1)));
     }
 
--- a builder that is complete
+-- a builder is complete exactly if no node is open and there is one finished node
 pub complete-parts : (d : Draft) → is_complete_of d ≡ true → (is_nothing d.open_nodes ≡ true) × (is_one_node d.finished ≡ true)
 complete-parts d h = and_parts (is_nothing d.open_nodes) (is_one_node d.finished) h

@@ -1,4 +1,4 @@
--- Where the elements of a tree begin to start at an offset or after it.
+-- The first element of a tree that starts at an offset or after it.
 use Rattle.std.proofs.Common.{◌≡◌, ℕ, ◌+◌, ◌-◌, ◌≤◌, ◌<◌, List, length, get_or, take, drop, Bool, true, false, None, nat_lt, ap, ◌∙◌, arith, inl, inr}
 use Rattle.std.{proofs.{Common.{length-drop, length-take-le, get_or-drop}, lemmas.{List.get_or-take, Bool.cases_lt}}, specs.List.Sorted.IsPartitionedBy}
 use Rattle.{std.specs.List.Sorted.IsPartitionPoint, rnix_kinds.specs.declared.kinds.SyntaxKind.TheVariants.TOKEN_ERROR}
@@ -21,7 +21,7 @@ module _ (t : Tree) (es : List Packed) (text : List ℕ) (kept : IsKept t es tex
   all : length es ≡ length (items_of t)
   all = length_kept t es text kept
 
-  -- an element of the piece is one of the tree
+  -- an element of the slice is an element of the tree
   in_piece : (i : ℕ) (d : Packed) → i < end - from → len_or_start_in (get_or piece i d) ≡ (item t (from + i)).start
   in_piece i d l =
       let at : get_or piece i d ≡ get_or es (from + i) d = get_or-take (end - from) (drop from es) i d l ∙ get_or-drop from es i d in

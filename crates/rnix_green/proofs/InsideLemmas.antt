@@ -5,11 +5,11 @@ use Rattle.rnix_green.proofs.{PieceLemmas.length-items_from, SiblingLemmas.below
 use Rattle.rnix_green.proofs.{PartLemmas.{below_of_part, part_there, one_there}, NestLemmas.{at, inside, beyond, behind, first_parent, Parented, of_row}}
 use Rattle.rnix_green.proofs.NestLemmas.{of_node, parented, next_parent, parent_over}
 
--- how many elements a tree has
+-- the number of a tree's elements
 pub elements_in_all : (t : Tree) → length (items_of t) ≡ element_count (forest_of t)
 elements_in_all t = length-items_from 0 0 None (forest_of t)
 
--- what is inside the element a is a forest of its own
+-- the elements inside element `a` are a forest of their own
 pub record Inner (t : Tree) (a : ℕ) : Type 0 where
   pub children : Forest
   pub start : ℕ
@@ -18,7 +18,7 @@ pub record Inner (t : Tree) (a : ℕ) : Type 0 where
   pub begins : (item t a).is_node ≡ true → (item t a).start ≡ start
   pub ends : (item t a).is_node ≡ true → (item t a).end ≡ start + length (text_of children)
 
--- what is known of all that is inside an element
+-- this holds for each element of a tree
 pub inner_of : (t : Tree) (a : ℕ) → a < length (items_of t) → Inner t a
 inner_of t a l = go _ (part_there t a l) (one_there t a l)
   where
@@ -57,7 +57,7 @@ inner_of t a l = go _ (part_there t a l) (one_there t a l)
               ];
         }
 
--- an element inside a has a parent that is a or inside a
+-- an element inside `a` has a parent that is `a` or inside `a`
 pub record IsHeld (t : Tree) (a m : ℕ) : Type 0 where
   pub parent : ℕ
   pub is : (item t m).parent ≡ Some parent
@@ -67,14 +67,14 @@ held_by : (t : Tree) (a m : ℕ) (parent : Option ℕ) → (item t m).parent ≡
 held_by t a m parent is (of_row e) = record { parent = a; is = is ∙ e; low = omega arith }
 held_by t a m parent is (of_node q e low) = record { parent = q; is = is ∙ e; low = omega arith }
 
--- what is inside an element has its parent there
+-- this holds for each element inside `a`
 pub held : (t : Tree) (a m : ℕ) → a < length (items_of t) → a < m → m ≤ a + (item t a).below → IsHeld t a m
 held t a m l low high =
     let inner = inner_of t a l in
     held_by t a m _ (ap (λ (i : Item). i.parent) (inner.items m low high))
     (parented (a + 1) inner.start (Some a) inner.children (m - (a + 1)) (omega (arith, inner.count)))
 
--- what is inside an element ends where the element ends
+-- an element inside `a` ends where `a` ends or before
 pub ends_inside : (t : Tree) (a m : ℕ) → a < length (items_of t) → a < m → m ≤ a + (item t a).below → m + (item t m).below ≤ a + (item t a).below
 ends_inside t a m l low high =
     let inner = inner_of t a l in
@@ -86,7 +86,7 @@ ends_inside t a m l low high =
           (omega (arith, inner.count)),
     )
 
--- the first element inside a is its child
+-- the first element inside `a` is a child of `a`
 pub first_child_of : (t : Tree) (a : ℕ) → a < length (items_of t) → 0 < (item t a).below → (item t (a + 1)).parent ≡ Some a
 first_child_of t a l some =
     let inner = inner_of t a l in
@@ -95,12 +95,12 @@ first_child_of t a l some =
     ∙ ap (λ i. (at (a + 1) inner.start (Some a) inner.children i).parent) none
     ∙ first_parent (a + 1) inner.start (Some a) inner.children (omega (arith, inner.count))
 
--- an element lies inside its parent
+-- an element is inside its parent `q`
 pub record IsBelow (t : Tree) (q m : ℕ) : Type 0 where
   pub low : q < m
   pub high : m ≤ q + (item t q).below
 
--- an element is inside its parent
+-- each element with a parent is inside it
 pub below_parent : (t : Tree) (m q : ℕ) → m < length (items_of t) → (item t m).parent ≡ Some q → IsBelow t q m
 below_parent t m q l e =
     elim (parent_over 0 0 None (forest_of t) m q (omega (arith, elements_in_all t)) e) [
@@ -111,7 +111,7 @@ below_parent t m q l e =
           record { low = omega (arith, h.high); high = omega (arith, over, ap (λ i. (item t i).below) same) }
     ]
 
--- what follows an element, inside its parent, has the same parent
+-- the element after an element and everything inside it has the same parent, if the parent contains it
 pub sibling_behind : (t : Tree) (m p : ℕ) → m < length (items_of t) → (item t m).parent ≡ Some p → m + 1 + (item t m).below ≤ p + (item t p).below
     → (item t (m + 1 + (item t m).below)).parent ≡ Some p
 sibling_behind t m p l e fits =
@@ -123,15 +123,15 @@ sibling_behind t m p l e fits =
     ∙ next_parent (p + 1) inner.start (Some p) inner.children (m - (p + 1)) (m + 1 + (item t m).below - (p + 1)) (omega arith)
     (sym (ap (λ (i : Item). i.parent) here) ∙ e) (omega (arith, below.low, ap (λ (i : Item). i.below) here)) (omega (arith, inner.count, below.low))
 
--- the root holds all other elements
+-- all other elements are inside the root
 pub root_holds : (t : Tree) → length (items_of t) ≡ suc (item t 0).below
 root_holds t = (let all = elements_in_all t in omega arith)
 
--- an element other than the root has a parent
+-- each element but the root has a parent
 pub has_parent : (t : Tree) (m : ℕ) → 0 < m → m < length (items_of t) → IsHeld t 0 m
 has_parent t m some l = held t 0 m (omega arith) some (omega (arith, root_holds t))
 
--- nothing is inside a leaf
+-- no element is inside a leaf of a forest
 pub holds_nothing : (n s : ℕ) (p : Option ℕ) (f : Forest) (i : ℕ) → i < element_count f → (at n s p f i).is_node ≡ false → (at n s p f i).below ≡ 0
 holds_nothing n s p empty i l e = absurd (omega arith)
 holds_nothing n s p (leaf k t f) zero l e = refl
@@ -145,6 +145,6 @@ holds_nothing n s p (node k c f) (suc i) l e = elim (behind n s p k c f i) as (�
       ∙ holds_nothing (n + 1 + element_count c) (s + length (text_of c)) p f (i - element_count c) (omega arith) (sym (ap (λ (y : Item). y.is_node) x) ∙ e)
 ]
 
--- nothing is inside a token
+-- no element is inside a token of a tree
 pub leaf_holds_nothing : (t : Tree) (m : ℕ) → m < length (items_of t) → (item t m).is_node ≡ false → (item t m).below ≡ 0
 leaf_holds_nothing t m l e = holds_nothing 0 0 None (forest_of t) m (omega (arith, elements_in_all t)) e

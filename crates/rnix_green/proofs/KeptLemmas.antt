@@ -1,4 +1,4 @@
--- A tree can be rebuilt from its elements and its text.
+-- A tree can be rebuilt from its stored elements and its text.
 use Rattle.std.proofs.Common.{◌≡◌, ℕ, zero, suc, ◌+◌, ◌-◌, ◌<◌, List, [], ◌∷◌, ◌++◌, length, take, drop, Option, Some, None, true, map, refl, ap, sym, subst}
 use Rattle.std.proofs.{Common.{◌∙◌, arith, length-append, append_assoc}, lemmas.List.{take_at, drop_at, append-nil, drop-drop, map-append, length-map}}
 use Rattle.{std.specs.Prelude.slice_get, rnix_green.specs.{declared.{packed.Packed.Packed, entries.{Entries.Entries, OpenNode.OpenNode as Pending}}, Forest.{Forest, empty, leaf}}}
@@ -9,14 +9,14 @@ use Rattle.rnix_green.specs.{Entries.{Holds, IsDraft, draft_in, made, is_node_la
 use Rattle.rnix_green.proofs.{EntriesLemmas.{first_elements-join, elements_after-join, entry_count, complete-parts}, PackedLemmas.packed_again}
 use Rattle.rnix_green.proofs.PieceLemmas.{length-items_from}
 
--- the first element of a forest starts where the forest does, or where what follows does
+-- the first element of a forest starts where the forest does, or, if the forest is empty, what follows does
 start_of_first-trees : (whole : List ℕ) (n s : ℕ) (p : Option ℕ) (f : Forest) (es : List Packed) → s + length (text_of f) ≡ start_of_first whole es →
     s < limit → start_of_first whole (kept_from n s p f ++ es) ≡ s
 start_of_first-trees whole n s p empty es e l = omega arith
 start_of_first-trees whole n s p (leaf k t f) es e l = packed_again s l
 start_of_first-trees whole n s p (node k c f) es e l = packed_again s l
 
--- the elements of a forest, whose text is at the start s, and further elements
+-- the forest is rebuilt from its elements, if its text is at its start, and the elements after it remain
 pub forest_from-trees : (whole : List ℕ) (n s : ℕ) (p : Option ℕ) (f : Forest) (rest : List ℕ) (es : List Packed) → drop s whole ≡ text_of f ++ rest →
     s + length (text_of f) ≡ start_of_first whole es → s + length (text_of f) < limit → element_count f < limit →
     forest_from whole (kept_from n s p f ++ es) ≡ join f (forest_from whole es)
@@ -63,7 +63,7 @@ forest_from-trees whole n s p (node k c f) rest es e b l m =
     ∙ ap (λ x. node k x (elements_after (element_count c) (join c (join f (forest_from whole es))))) (first_elements-join c (join f (forest_from whole es)))
     ∙ ap (node k c) (elements_after-join c (join f (forest_from whole es)))
 
--- the stored elements represent the tree
+-- the tree that is rebuilt from its stored elements is the tree
 pub tree_from_kept : (t : Tree) (es : List Packed) (text : List ℕ) → IsKept t es text → tree_from es text ≡ t
 tree_from_kept t es text h =
     let whole : length text ≡ length (text_of (forest_of t)) = ap length h.text_is in
@@ -76,11 +76,11 @@ tree_from_kept t es text h =
     ∙ join_empty (forest_of t) in
     ap (λ x. as_tree (forest_from text x)) h.elements ∙ ap as_tree same
 
--- and so the tree that is rebuilt from them
+-- the elements are the stored ones of the tree that is rebuilt from them
 pub kept : (t : Tree) (es : List Packed) (text : List ℕ) → IsKept t es text → IsKept (tree_from es text) es text
 kept t es text h = rw (tree_from_kept t es text h) h
 
--- a forest of one node is a tree
+-- a forest of one node is the forest of a tree
 pub one_node : (f : Forest) → is_one_node f ≡ true → forest_of (as_tree f) ≡ f
 one_node empty h = cc
 one_node (leaf k t f) h = cc
@@ -88,7 +88,7 @@ one_node (node k c empty) h = refl
 one_node (node k c (leaf j t f)) h = cc
 one_node (node k c (node j d f)) h = cc
 
--- the elements of a finished tree, beside the builder's text
+-- the stored elements of a finished tree, with the builder's text
 finished_kept : (text : List ℕ) (e : Entries) (f : Forest) (os : List OpenNode) (elements : List Packed) →
     Holds text e record { finished = f; open_nodes = os } → is_one_node f ≡ true → elements ≡ kept_from 0 0 None f → IsKept (as_tree f) elements text
 finished_kept text e empty os elements h o is = absurd (cc)
@@ -106,7 +106,7 @@ finished_kept text e (node k c empty) os elements h o is =
 finished_kept text e (node k c (leaf j t f)) os elements h o is = absurd (cc)
 finished_kept text e (node k c (node j d f)) os elements h o is = absurd (cc)
 
--- and so beside a copy of the text
+-- the same with a copy of the text
 pub copied_kept : (text cut copy : List ℕ) (e : Entries) (elements : List Packed) → Holds text e (draft_in text e) →
     is_complete_of (draft_in text e) ≡ true → cut ≡ text → copy ≡ cut → elements ≡ kept_from 0 0 None (made cut e.elements.items)
     → IsKept (as_tree (made text e.elements.items)) elements copy
@@ -114,7 +114,7 @@ copied_kept text cut copy e elements h o c p is =
     subst (IsKept (as_tree (made text e.elements.items)) elements) (sym (p ∙ c))
     (finished_kept text e _ _ elements h (complete-parts (draft_in text e) o).1 (is ∙ ap (λ t. kept_from 0 0 None (made t e.elements.items)) c))
 
--- the stored elements of a complete builder represent its tree
+-- the stored elements of a complete builder are those of its tree
 pub finished_is : (text copy : List ℕ) (e : Entries) (elements : List Packed) (t : Tree) → is_complete_of (draft_in text e) ≡ true →
     IsKept (as_tree (made text e.elements.items)) elements copy → t ≡ tree_from elements copy → forest_of t ≡ made text e.elements.items
 finished_is text copy e elements t o h is =
@@ -126,7 +126,7 @@ last_get [] x (suc n) h = absurd (omega arith)
 last_get (e ∷ es) x zero h = absurd (omega arith)
 last_get (e ∷ es) x (suc n) h = last_get es x n (omega arith)
 
--- a forest of one tree is a node if the last entry is
+-- a forest of one tree is a node exactly if the last entry is
 pub one_node_test : (f : Forest) → tree_count f ≡ 1 → is_one_node f ≡ is_node_last (entries_of f)
 one_node_test empty h = absurd (omega arith)
 one_node_test (leaf k t empty) h = refl
@@ -137,7 +137,7 @@ one_node_test (node k c empty) h = ap is_node_entry
 one_node_test (node k c (leaf j u f)) h = absurd (omega arith)
 one_node_test (node k c (node j d f)) h = absurd (omega arith)
 
--- a builder is complete if no node is open, and one tree is there, a node
+-- a builder is complete exactly if no node is open, and there is one tree, which is a node
 pub complete_is : (text : List ℕ) (es : List Packed) (os : List Pending) (st : List ℕ) (d : Draft) → IsDraft text es os st d → length os ≡ 0 → length st ≡ 1 →
     is_node_last (map entry_of es) ≡ is_complete_of d
 complete_is text es [] st d h o s =

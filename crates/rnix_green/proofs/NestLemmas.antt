@@ -1,20 +1,20 @@
--- How the elements of a tree lie inside one another, by their numbers.
+-- How the elements of a tree are inside one another, by their numbers.
 use Rattle.std.proofs.Common.{◌≡◌, ℕ, zero, suc, ◌+◌, ◌-◌, ◌≤◌, ◌<◌, length, get_or, Option, Some, None, refl, ap, sym, subst, ◌∙◌, arith, ◌⊎◌, inl, inr}
 use Rattle.std.proofs.lemmas.{Bool.cases_lt, Option.same_Some, List.{get_or_append_left, get_or-append_right}}
 use Rattle.{rnix_kinds.specs.declared.kinds.SyntaxKind.SyntaxKind, rnix_green.specs.{Forest.{Forest, empty, leaf, node, text_of, element_count}, Tree.Item}}
 use Rattle.rnix_green.{specs.Tree.{items_from, no_item}, proofs.PieceLemmas.length-items_from}
 
--- the element of an index in a forest
+-- the item with an index in a forest
 abbrev pub at : ℕ → ℕ → Option ℕ → Forest → ℕ → Item
 at n s p f i = get_or (items_from n s p f) i no_item
 
--- after a node: an element inside it, or one of the forest after it
+-- an element after a node's first one is inside the node or after it
 pub data Behind (n s : ℕ) (p : Option ℕ) (k : SyntaxKind) (c f : Forest) (i : ℕ) : Type 0 where
   inside : i < element_count c → at n s p (node k c f) (suc i) ≡ at (n + 1) s (Some n) c i → Behind n s p k c f i
   beyond : element_count c ≤ i → at n s p (node k c f) (suc i) ≡ at (n + 1 + element_count c) (s + length (text_of c)) p f (i - element_count c)
       → Behind n s p k c f i
 
--- an element after the first one, a node, is inside it or after it
+-- this holds for each index
 pub behind : (n s : ℕ) (p : Option ℕ) (k : SyntaxKind) (c f : Forest) (i : ℕ) → Behind n s p k c f i
 behind n s p k c f i =
     let xs = items_from (n + 1) s (Some n) c in
@@ -25,13 +25,13 @@ behind n s p k c f i =
       | inr high ↦ beyond high (get_or-append_right xs ys (element_count c) i no_item count high)
     ]
 
--- the first of a forest has the forest's parent
+-- the first element of a forest has the forest's parent
 pub first_parent : (n s : ℕ) (p : Option ℕ) (f : Forest) → 0 < element_count f → (at n s p f 0).parent ≡ p
 first_parent n s p empty l = absurd (omega arith)
 first_parent n s p (leaf k t f) l = refl
 first_parent n s p (node k c f) l = refl
 
--- an element's parent is the forest's, or in the forest
+-- the parent is the forest's, or one of its elements
 pub data Parented (n : ℕ) (p parent : Option ℕ) : Type 0 where
   of_row : parent ≡ p → Parented n p parent
   of_node : (q : ℕ) → parent ≡ Some q → n ≤ q → Parented n p parent
@@ -44,7 +44,7 @@ inner_parented : (n m : ℕ) (p parent : Option ℕ) → n ≤ m → Parented m 
 inner_parented n m p parent l (of_row e) = of_node n e (omega arith)
 inner_parented n m p parent l (of_node q e low) = of_node q e (omega arith)
 
--- the parent of an element is that of the forest, or a node of the forest
+-- this holds for each element of a forest
 pub parented : (n s : ℕ) (p : Option ℕ) (f : Forest) (i : ℕ) → i < element_count f → Parented n p (at n s p f i).parent
 parented n s p empty i l = absurd (omega arith)
 parented n s p (leaf k t f) zero l = of_row refl
@@ -59,7 +59,7 @@ parented n s p (node k c f) (suc i) l = elim (behind n s p k c f i) as (λ b. Pa
       (omega arith)))
 ]
 
--- the forest's parent is before the forest
+-- the forest's parent, if there is one, has a smaller number than the forest
 abbrev pub IsOutside : ℕ → Option ℕ → Type 0
 IsOutside n None = Unit {0}
 IsOutside n (Some q) = q < n
@@ -74,7 +74,7 @@ not_inside n m (Some q) parent l h same (of_row e) = (let eq : q ≡ n = same_So
 not_inside n m None parent l h same (of_node r e low) = cc
 not_inside n m (Some q) parent l h same (of_node r e low) = (let eq : q ≡ r = same_Some q r (sym same ∙ e) in omega arith)
 
--- what follows an element of a forest has the same parent
+-- the element after an element and everything inside it has the same parent, if that is the forest's
 pub next_parent : (n s : ℕ) (p : Option ℕ) (f : Forest) (i j : ℕ) → IsOutside n p → (at n s p f i).parent ≡ p → j ≡ i + 1 + (at n s p f i).below
     → j < element_count f
     → (at n s p f j).parent ≡ p
@@ -110,13 +110,13 @@ next_parent n s p (node k c f) (suc i) (suc j) out e is l =
           ]
     ]
 
--- an element lies inside its parent
+-- an element is inside its parent `q`
 pub record IsOver (n i q : ℕ) (p : Option ℕ) (s : ℕ) (f : Forest) : Type 0 where
   pub low : n ≤ q
   pub high : q < n + i
   pub over : n + i ≤ q + (at n s p f (q - n)).below
 
--- an element that has a parent in the forest is inside it
+-- this holds for each element with a parent in the forest
 pub parent_over : (n s : ℕ) (p : Option ℕ) (f : Forest) (i q : ℕ) → i < element_count f → (at n s p f i).parent ≡ Some q → (p ≡ Some q) ⊎ IsOver n i q p s f
 parent_over n s p empty i q l e = absurd (omega arith)
 parent_over n s p (leaf k t f) zero q l e = inl e

@@ -1,4 +1,4 @@
--- The steps that read and place a node that has one token alone.
+-- Reading and placing a node that contains only one token.
 use Rattle.std.proofs.Common.{◌≡◌, ◌≢◌, ℕ, zero, suc, ◌+◌, ◌-◌, ◌≤◌, ◌<◌, List, [], ◌∷◌, ◌++◌, length, get_or, take, drop, reverse, refl, ap, sym, ◌∙◌, subst}
 use Rattle.std.proofs.{Common.arith, lemmas.List.{length_push, length-reverse, length-set, reverse-append}, Math.{ListN.set, Seq.take-append_seam}}
 use Rattle.rnix_green.specs.{declared.{packed.Packed.Packed, postorder.Frame.Frame}, Kept.parent_or_root, Forest.Forest, Packed.{packed, len_or_start_in, size_in}}
@@ -10,16 +10,16 @@ same_read [] i x y l a b = absurd (omega arith)
 same_read (e ∷ es) zero x y l a b = a ∙ sym b
 same_read (e ∷ es) (suc i) x y l a b = same_read es i x y (omega arith) a b
 
--- a token that is read again is one
+-- an element that is read again is the same
 pub token_again : (es : List Packed) (i : ℕ) (x y : Packed) → i < length es → x ≡ get_or es i x → y ≡ get_or es i y → size_in x ≡ 0 → size_in y ≡ 0
 token_again es i x y l a b none = ap size_in (sym (same_read es i x y l a b)) ∙ none
 
--- the frame of a node of two elements, and those around it
+-- the frames with that of a node of two elements
 abbrev with_pair : List Frame → Packed → ℕ → List Frame
 with_pair frames x remaining =
     frames ++ record { kind = x.kind; size = size_in x; number = remaining - 1 - 1 + length frames; first = remaining - 1 - 1 } ∷ []
 
--- something comes before a node of two elements
+-- another entry precedes such a node
 pub pair_fits : (forest : Forest) (es : List Packed) (remaining offset : ℕ) (frames : List Frame) (x : Packed) →
     remaining + length frames ≤ length es → remaining ≢ 0 → x ≡ get_or es (remaining - 1) x → size_in x ≡ 2 → HasMore (reverse frames) remaining →
     IsWork forest (entries_before remaining es) offset (reverse frames) (drop (remaining + length frames) es) → 0 < remaining - 1
@@ -35,7 +35,7 @@ pair_fits forest es remaining offset frames x l z ex two o w =
     (omega arith) z ex two refl refl o w in
     omega (arith, r.fits, length-entries_before (remaining - 1) es (omega arith))
 
--- the token that a node has alone is read after it
+-- the token of such a node is read after the node
 pub pair_read : (forest : Forest) (es : List Packed) (remaining offset : ℕ) (frames : List Frame) (x y : Packed) →
     remaining + length frames ≤ length es → remaining ≢ 0 → x ≡ get_or es (remaining - 1) x → y ≡ get_or es (remaining - 1 - 1) y → size_in x ≡ 2
     → size_in y ≡ 0 →
@@ -52,7 +52,7 @@ pair_read forest es remaining offset frames x y l z ex ey two none o w =
     (subst (λ frs. HasMore frs (remaining - 1)) (sym (reverse-append frames (fr ∷ []))) inner)
     (node_framed forest es remaining offset frames _ fr z refl (r.work (omega (arith, before)) (omega (arith, length-reverse frames))))
 
--- a node that has one token alone is placed with it
+-- such a node is placed together with its token
 pub pair_placed : (forest : Forest) (es : List Packed) (remaining offset number : ℕ) (frames : List Frame) (x y token kept : Packed) →
     remaining + length frames ≤ length es → remaining ≢ 0 → x ≡ get_or es (remaining - 1) x → y ≡ get_or es (remaining - 1 - 1) y → size_in x ≡ 2
     → size_in y ≡ 0 →

@@ -4,7 +4,7 @@ use Rattle.std.proofs.{Common.inr, lemmas.{Bool.cases_lt, List.{get_or_append_le
 use Rattle.rnix_green.specs.{Forest.{Forest, empty, leaf, node, text_of, element_count}, Tree.{Tree, Item, items_from, items_of, forest_of, no_item, item}}
 use Rattle.rnix_green.{specs.Tree.IsNodeAt, proofs.PieceLemmas.length-items_from}
 
--- q is the number of a node among the elements from number n on, before the place m
+-- `q` is the number of a node among the elements from number `n` on, before position `m`
 pub record IsNodeBefore (n m q : ℕ) (is : List Item) : Type 0 where
   pub low : n ≤ q
   pub high : q < n + m
@@ -38,7 +38,7 @@ in_right n m q j xs ys e l h =
           ap (λ x. x.is_node) (get_or-append_right xs ys j (q - n) no_item e (omega (arith, h.low)) ∙ ap (λ k. get_or ys k no_item) same) ∙ h.is_node;
     }
 
--- the parent of an element is that of the forest, or a node before the element
+-- the parent of an element is the forest's, or a node before the element
 pub parent_of : (n s : ℕ) (p : Option ℕ) (f : Forest) (m q : ℕ) → m < element_count f → (get_or (items_from n s p f) m no_item).parent ≡ Some q →
     (p ≡ Some q) ⊎ IsNodeBefore n m q (items_from n s p f)
 parent_of n s p empty m q l e = absurd (omega arith)
@@ -73,7 +73,7 @@ parent_of n s p (node k c f) (suc m) q l e =
           ]
     ]
 
--- a parent is a node
+-- each parent is a node
 pub parent_is_node : (t : Tree) (m q : ℕ) → m < length (items_of t) → (item t m).parent ≡ Some q → IsNodeAt record { tree = t; number = q }
 parent_is_node t m q l e =
     let count : length (items_of t) ≡ element_count (forest_of t) = length-items_from 0 0 None (forest_of t) in

@@ -1,4 +1,4 @@
--- Where an element and what is inside it are among the elements of a forest.
+-- The part of an element: the element and what is inside it, among the elements of a forest.
 use Rattle.std.proofs.Common.{◌≡◌, ℕ, suc, ◌+◌, ◌-◌, ◌≤◌, ◌<◌, List, [], ◌∷◌, ◌++◌, length, drop, get_or, Bool, true, false, Option, Some, None, refl, ap, sym}
 use Rattle.std.proofs.{Common.{◌∙◌, subst, arith, inl, inr, append_assoc, length-append}, lemmas.{Bool.cases_lt, List.{drop_at, append-nil}}}
 use Rattle.std.{proofs.lemmas.List.{get_or_append_left, get_or-append_right}, specs.Prelude.{if◌then◌else◌, nat_lt, ◌==◌}}
@@ -7,7 +7,7 @@ use Rattle.rnix_green.specs.{Tree.{Item, items_from, items_of, forest_of, no_ite
 use Rattle.rnix_green.{specs.PreorderNumbers.{siblings_between, passed_over}, proofs.NumberTests.{is_same, is_above, is_below, is_not_below, below_true, below_false}}
 use Rattle.rnix_green.proofs.{NumberTests.other, PieceLemmas.length-items_from, SiblingLemmas.{passed_trees, no_sibling}}
 
--- the part of the element m, among the items of a forest that is numbered from n
+-- these elements, from element `m` on, are those of the part, in a forest that is numbered from `n`
 pub record IsPart (n m : ℕ) (part : Forest) (is : List Item) : Type 0 where
   pub start : ℕ
   pub parent : Option ℕ
@@ -16,11 +16,11 @@ pub record IsPart (n m : ℕ) (part : Forest) (is : List Item) : Type 0 where
   pub split : is ≡ before ++ (items_from m start parent part ++ after)
   pub counted : n + length before ≡ m
 
--- the first of a forest
+-- this holds for the first element of a forest
 first_part : (n s : ℕ) (p : Option ℕ) (part : Forest) (rest : List Item) → IsPart n n part (items_from n s p part ++ rest)
 first_part n s p part rest = record { start = s; parent = p; before = []; after = rest; split = refl; counted = omega arith }
 
--- some elements in front, and some after
+-- this holds for other elements before and after
 later_part : (n j m : ℕ) (part : Forest) (xs is ys : List Item) → n + length xs ≡ j → IsPart j m part is → IsPart n m part (xs ++ (is ++ ys))
 later_part n j m part xs is ys e h = record {
   start = h.start;
@@ -34,7 +34,7 @@ later_part n j m part xs is ys e h = record {
   counted = omega (arith, length-append xs h.before, h.counted);
 }
 
--- an element of a forest is a part of it
+-- each element of a forest has its part
 pub part_in : (n s : ℕ) (p : Option ℕ) (f : Forest) (m : ℕ) → n ≤ m → m < n + element_count f → IsPart n m (part_of m n f) (items_from n s p f)
 part_in n s p empty m l h = absurd (omega arith)
 part_in n s p (leaf k t f) m l h =
@@ -94,7 +94,7 @@ choice : (b : Bool) (f g : Forest) → (b ≡ true → IsOne f) → (b ≡ false
 choice true f g h k = h refl
 choice false f g h k = k refl
 
--- and one tree
+-- each part is one tree
 pub part_is_one : (n : ℕ) (f : Forest) (m : ℕ) → n ≤ m → m < n + element_count f → IsOne (part_of m n f)
 part_is_one n empty m l h = absurd (omega arith)
 part_is_one n (leaf k t f) m l h =
@@ -109,7 +109,7 @@ part_is_one n (node k c f) m l h =
     (λ b. let x : m < n + 1 + element_count c = below_true m (n + 1 + element_count c) b in part_is_one (n + 1) c m (omega arith) (omega arith))
     (λ b. let x : n + 1 + element_count c ≤ m = below_false m (n + 1 + element_count c) b in part_is_one (n + 1 + element_count c) f m x (omega arith)))
 
--- an item of a part is an item of the whole
+-- the items of a part are items of the whole tree
 pub item_of_part : (t : Tree) (r m : ℕ) (part : Forest) (h : IsPart 0 r part (items_of t)) → r ≤ m → m < r + element_count part →
     item t m ≡ get_or (items_from r h.start h.parent part) (m - r) no_item
 item_of_part t r m part h l u =
@@ -119,19 +119,19 @@ item_of_part t r m part h l u =
     ∙ get_or-append_right h.before (xs ++ h.after) r m no_item (omega (arith, h.counted)) l
     ∙ get_or_append_left xs h.after no_item (m - r) (omega arith)
 
--- an element of a tree is a part of it
+-- each element of a tree has its part
 pub part_there : (t : Tree) (r : ℕ) → r < length (items_of t) → IsPart 0 r (part_at record { tree = t; number = r }) (items_of t)
 part_there t r l =
     let count : length (items_of t) ≡ element_count (forest_of t) = length-items_from 0 0 None (forest_of t) in
     part_in 0 0 None (forest_of t) r (omega arith) (omega arith)
 
--- and one tree
+-- each part of a tree is one tree
 pub one_there : (t : Tree) (r : ℕ) → r < length (items_of t) → IsOne (part_at record { tree = t; number = r })
 one_there t r l =
     let count : length (items_of t) ≡ element_count (forest_of t) = length-items_from 0 0 None (forest_of t) in
     part_is_one 0 (forest_of t) r (omega arith) (omega arith)
 
--- the elements inside the root of a part
+-- the number of elements inside the first one of a part
 pub below_of_part : (t : Tree) (r : ℕ) (part : Forest) (h : IsPart 0 r part (items_of t)) → IsOne part → element_count part ≡ suc (item t r).below
 below_of_part t r _ h (one_leaf k u) =
     let e = item_of_part t r r (leaf k u empty) h (omega arith) (omega arith) in
@@ -144,7 +144,7 @@ below_of_part t r _ h (one_node k c) =
     let b : (item t r).below ≡ element_count c = ap (λ i. i.below) (e ∙ ap (λ n. get_or (items_from r h.start h.parent (node k c empty)) n no_item) d) in
     omega arith
 
--- the siblings below an element are its children
+-- the siblings that begin with an element's first child are its children
 pub children_between : (t : Tree) (m : ℕ) → m < length (items_of t) →
     siblings_between (items_of t) (m + 1) (m + 1 + (item t m).below) ≡ tree_numbers (m + 1) (children_in (part_at record { tree = t; number = m }))
 children_between t m l = go _ (part_there t m l) (one_there t m l)

@@ -1,10 +1,10 @@
--- Where the text of an element lies in the text of its tree.
+-- The place of an element's text in the text of its tree.
 use Rattle.std.proofs.Common.{◌≡◌, ℕ, zero, suc, ◌+◌, ◌-◌, ◌≤◌, ◌<◌, List, [], ◌++◌, length, get_or, Option, Some, None, refl, ap, sym, ◌∙◌, subst, arith}
 use Rattle.std.proofs.{Common.{length-append, append_assoc, inl, inr}, lemmas.{Bool.cases_lt, List.{get_or_append_left, get_or-append_right}}}
 use Rattle.{std.{proofs.lemmas.Str.{IsUtf8-append, IsUtf8-nil, IsCharBoundary-at_seam}, specs.Str.{IsUtf8, IsCharBoundary}}, rnix_green.specs.Forest.Forest}
 use Rattle.rnix_green.specs.{Forest.{empty, leaf, node, text_of, element_count, HasText}, Tree.{Tree, Item, items_from, items_of, forest_of, no_item, item}}
 
--- as many items as elements
+-- there are as many items as elements
 pub length-items_from : (n s : ℕ) (p : Option ℕ) (f : Forest) → length (items_from n s p f) ≡ element_count f
 length-items_from n s p empty = refl
 length-items_from n s p (leaf k t f) = ap suc (length-items_from (n + 1) (s + length t) p f)
@@ -13,13 +13,13 @@ length-items_from n s p (node k c f) =
     let outer = length-items_from (n + 1 + element_count c) (s + length (text_of c)) p f in
     omega (arith, inner, outer, length-append (items_from (n + 1) s (Some n) c) (items_from (n + 1 + element_count c) (s + length (text_of c)) p f))
 
--- a text of characters
+-- if the leaves of a forest are UTF-8, so is its text
 pub text_of-IsUtf8 : (f : Forest) → HasText f → IsUtf8 (text_of f)
 text_of-IsUtf8 empty h = IsUtf8-nil
 text_of-IsUtf8 (leaf k t f) h = IsUtf8-append t (text_of f) h.0 (text_of-IsUtf8 f h.1)
 text_of-IsUtf8 (node k c f) h = IsUtf8-append (text_of c) (text_of f) (text_of-IsUtf8 c h.0) (text_of-IsUtf8 f h.1)
 
--- an element's text, with the text before it and after it, in a text whose first byte has the offset s
+-- the text splits into the text before an element, the element's, and the text after it; it starts at offset `s`
 pub record Piece (s : ℕ) (text : List ℕ) (i : Item) : Type 0 where
   pub before : List ℕ
   pub inside : List ℕ
@@ -57,7 +57,7 @@ piece_after s t rest i u p = record {
   after_text = p.after_text;
 }
 
--- each element is a piece of the text
+-- this holds for each element of a forest
 pub piece_of : (n s : ℕ) (p : Option ℕ) (f : Forest) (m : ℕ) → HasText f → m < element_count f → Piece s (text_of f) (get_or (items_from n s p f) m no_item)
 piece_of n s p empty m h l = absurd (omega arith)
 piece_of n s p (leaf k t f) zero h l = record {
@@ -99,13 +99,13 @@ piece_of n s p (node k c f) (suc m) h l =
           (piece_of (n + 1 + element_count c) (s + length (text_of c)) p f (m - element_count c) h.1 (omega arith)))
     ]
 
--- an element's ends are places where the text may be cut
+-- an element starts and ends at character boundaries of the text
 pub record IsCut (text : List ℕ) (i : Item) : Type 0 where
   pub ordered : i.start ≤ i.end
   pub at_start : IsCharBoundary text i.start
   pub at_end : IsCharBoundary text i.end
 
--- a piece of a text can be cut from it
+-- so it does if the text splits so
 pub cut_from_piece : (text : List ℕ) (i : Item) → Piece 0 text i → IsCut text i
 cut_from_piece text i p =
     let first : i.start ≡ length p.before = omega (arith, p.starts) in
@@ -119,7 +119,7 @@ cut_from_piece text i p =
           (p.parts ∙ sym (append_assoc p.before p.inside p.after)) p.after_text);
     }
 
--- so can each element of a tree
+-- so does each element of a tree
 pub cut_of : (t : Tree) (m : ℕ) → HasText (forest_of t) → m < length (items_of t) → IsCut (text_of (forest_of t)) (item t m)
 cut_of t m h l =
     cut_from_piece (text_of (forest_of t)) (item t m)

@@ -8,14 +8,14 @@ use Rattle.rnix_green.specs.{Forest.{node, join, text_of, element_count}, Packed
 use Rattle.rnix_green.specs.Postorder.{Node, entry_by, entry_of, entries_of, child_number, parent_number, rest_entries, rest_text, frame_kept, around}
 use Rattle.rnix_green.{specs.Postorder.{IsAligned, HasMore, IsReached, IsWork}, proofs.{PackedLemmas.packed_again, ForestLemmas.text_of-join}}
 
--- as many entries as elements
+-- there are as many entries as elements
 pub length-post_of : (f : Forest) → length (entries_of f) ≡ element_count f
 length-post_of empty = refl
 length-post_of (leaf k t f) = ap suc (length-post_of f)
 length-post_of (node k c f) =
     omega (arith, length-post_of c, length-post_of f, length-append (entries_of c) (Node k (element_count c) ∷ entries_of f))
 
--- the entries of two forests
+-- the entries of two joined forests are those of both
 pub entries_of-join : (f g : Forest) → entries_of (join f g) ≡ entries_of f ++ entries_of g
 entries_of-join empty g = refl
 entries_of-join (leaf k t f) g = ap (λ x. Leaf k (length t) ∷ x) (entries_of-join f g)
@@ -23,7 +23,7 @@ entries_of-join (node k c f) g =
     ap (λ x. entries_of c ++ (Node k (element_count c) ∷ x)) (entries_of-join f g)
     ∙ sym (append_assoc (entries_of c) (Node k (element_count c) ∷ entries_of f) (entries_of g))
 
--- the items of two forests
+-- the items of two joined forests are those of both, the second numbered after the first
 pub items_from-join : (n s : ℕ) (p : Option ℕ) (f g : Forest) →
     items_from n s p (join f g) ≡ items_from n s p f ++ items_from (n + element_count f) (s + length (text_of f)) p g
 items_from-join n s p empty g =
@@ -49,13 +49,13 @@ items_from-join n s p (node k c f) g =
     ∙ ap (λ m. ys ++ items_from (n + suc (element_count c + element_count f)) m p g) b)
     ∙ sym (append_assoc xs ys _))
 
--- what is kept of two forests
+-- the stored elements of two joined forests are those of both
 kept_from-join : (n s : ℕ) (p : Option ℕ) (f g : Forest) →
     kept_from n s p (join f g) ≡ kept_from n s p f ++ kept_from (n + element_count f) (s + length (text_of f)) p g
 kept_from-join n s p f g =
     ap (map kept_of) (items_from-join n s p f g) ∙ map-append kept_of (items_from n s p f) (items_from (n + element_count f) (s + length (text_of f)) p g)
 
--- a forest by its last tree
+-- a forest with a last tree
 pub data Last : Forest → Type 0 where
   no_last : Last empty
   last_leaf : (g : Forest) (k : SyntaxKind) (t : List ℕ) → Last (join g (leaf k t empty))
@@ -71,7 +71,7 @@ after_node k d _ no_last = last_node empty k d
 after_node k d _ (last_leaf g j u) = last_leaf (node k d g) j u
 after_node k d _ (last_node g j c) = last_node (node k d g) j c
 
--- a forest is empty, or has a last tree
+-- each forest is empty or has a last tree
 pub last_of : (f : Forest) → Last f
 last_of empty = no_last
 last_of (leaf k t f) = after_leaf k t f (last_of f)
@@ -82,7 +82,7 @@ empty_from_count empty e = refl
 empty_from_count (leaf k t f) e = absurd (omega arith)
 empty_from_count (node k c f) e = absurd (omega arith)
 
--- the innermost node is closed where no entry in it is left
+-- the innermost node is closed when no entry inside it is left
 pub close_step : (forest : Forest) (prefix : List Entry) (offset : ℕ) (fr : Frame) (frs : List Frame) (done : List Packed) →
     IsWork forest prefix offset (fr ∷ frs) done → fr.first ≡ length prefix →
     IsWork forest prefix offset frs (frame_kept fr offset (parent_number frs) ∷ done)
@@ -116,13 +116,13 @@ nothing_remaining [] (g ∷ gs) n al e o h = al
 nothing_remaining (fr ∷ frs) [] n al e o h = al
 nothing_remaining (fr ∷ frs) (g ∷ gs) n al e o h = o (al.0 ∙ e)
 
--- what follows where the last entry is read: the rest of the work, and that the lengths can be taken off
+-- what follows when the last entry, a leaf, is read: the rest of the work, and that the lengths can be subtracted
 pub record IsLeafRead (forest : Forest) (before : List Entry) (offset : ℕ) (frs : List Frame) (done : List Packed) (k : SyntaxKind) (n : ℕ) : Type 0 where
   pub fits : n ≤ offset
   pub work : IsWork forest before (offset - n) frs
       (packed k (offset - n) (parent_or_root (parent_number frs)) 0 ∷ done)
 
--- a leaf is read
+-- this holds when a leaf is read
 pub leaf_step : (forest : Forest) (before : List Entry) (offset : ℕ) (frs : List Frame) (done : List Packed) (k : SyntaxKind) (n : ℕ) →
     IsWork forest (before ++ Leaf k n ∷ []) offset frs done → HasMore frs (length before + 1) → IsLeafRead forest before offset frs done k n
 leaf_step forest before offset frs done k n w o = go w.current w.outer (last_of w.current) w.entries w.text w.aligned w.elements
@@ -166,19 +166,19 @@ leaf_step forest before offset frs done k n w o = go w.current w.outer (last_of 
           work = record { current = g; outer = outer; entries = same.0; text = rest; aligned = al; elements = subst P split it };
         }
 
--- the number of the next child is how many entries are left of it, and how many nodes are open
+-- the number of the next child is the number of entries that are left, and of open nodes
 first_child : (frs : List Frame) (outer : List Forest) → IsAligned frs outer → child_number frs ≡ length (rest_entries outer) + length frs
 first_child [] [] al = refl
 first_child [] (g ∷ gs) al = absurd al
 first_child (fr ∷ frs) [] al = absurd al
 first_child (fr ∷ frs) (g ∷ gs) al = omega (arith, al.1)
 
--- a node is read: its frame is open, and what is inside it is left to do
+-- what follows when the last entry, a node, is read: its frame is open, and what is inside it is left
 pub record IsNodeRead (forest : Forest) (before : List Entry) (offset : ℕ) (frs : List Frame) (done : List Packed) (fr : Frame) (b : ℕ) : Type 0 where
   pub fits : b ≤ length before
   pub work : fr.first ≡ length before - b → fr.number ≡ fr.first + length frs → IsWork forest before offset (fr ∷ frs) done
 
--- a node is read
+-- this holds when a node is read
 pub node_step : (forest : Forest) (before : List Entry) (offset : ℕ) (frs : List Frame) (done : List Packed) (fr : Frame) (b : ℕ) → fr.size ≡ suc b →
     IsWork forest (before ++ Node fr.kind b ∷ []) offset frs done → HasMore frs (length before + 1) → IsNodeRead forest before offset frs done fr b
 node_step forest before offset frs done fr b size w o = go w.current w.outer (last_of w.current) w.entries w.text w.aligned w.elements
@@ -241,13 +241,13 @@ node_step forest before offset frs done fr b size w o = go w.current w.outer (la
               };
         }
 
--- where nothing is left, no node is open
+-- if no entry is left, no node is open
 no_frame : (frs : List Frame) (outer : List Forest) → IsAligned frs outer → length (rest_entries outer) ≡ 0 → HasMore frs 0 → frs ≡ []
 no_frame [] outer al e o = refl
 no_frame (fr ∷ frs) [] al e o = absurd al
 no_frame (fr ∷ frs) (g ∷ gs) al e o = absurd (o (al.0 ∙ e))
 
--- all is left to do
+-- at the beginning all entries are left
 pub start_work : (forest : Forest) (offset : ℕ) → offset ≡ length (text_of forest) → IsWork forest (entries_of forest) offset [] []
 start_work forest offset e = record {
   current = forest;
@@ -258,7 +258,7 @@ start_work forest offset e = record {
   elements = append-nil _;
 }
 
--- where no entry is left all items are done
+-- if no entry is left, all items are placed
 pub end_work : (forest : Forest) (offset : ℕ) (frs : List Frame) (done : List Packed) → IsWork forest [] offset frs done → HasMore frs 0
     → done ≡ kept_from 0 0 None forest
 end_work forest offset frs done w o =
@@ -273,19 +273,19 @@ end_work forest offset frs done w o =
         rw none at it
     go cur (g ∷ gs) en al it = absurd al
 
--- what is packed as a leaf is one
+-- a stored leaf is a leaf again
 pub packed_leaf : (k : SyntaxKind) (n : ℕ) → n < limit → entry_of (packed k n 0 0) ≡ Leaf k n
 packed_leaf k n l = ap (Leaf k) (packed_again n l)
 
--- so is a node
+-- a stored node is a node again
 pub packed_node : (k : SyntaxKind) (b : ℕ) → suc b < limit → entry_of (packed k 0 0 (suc b)) ≡ Node k b
 packed_node k b l = ap (λ m. entry_by m k 0) (packed_again (suc b) l)
 
--- an element of no size is a leaf
+-- an element without a size is a leaf
 leaf_entry : (x : Packed) → size_in x ≡ 0 → entry_of x ≡ Leaf x.kind (len_or_start_in x)
 leaf_entry x e = ap (λ m. entry_by m x.kind (len_or_start_in x)) e
 
--- one of some size is a node
+-- an element with a size is a node
 node_entry : (x : Packed) (b : ℕ) → size_in x ≡ suc b → entry_of x ≡ Node x.kind b
 node_entry x b e = ap (λ m. entry_by m x.kind (len_or_start_in x)) e
 
@@ -296,7 +296,7 @@ entries_before n es = map entry_of (take n es)
 pub length-entries_before : (n : ℕ) (es : List Packed) → n ≤ length es → length (entries_before n es) ≡ n
 length-entries_before n es l = length-map (take n es) entry_of ∙ length-take-le n es l
 
--- the entries without the last that is not read
+-- all entries but the last one that is left
 last_entry : (es : List Packed) (todo : ℕ) (x : Packed) → todo ≤ length es → todo ≢ 0 → x ≡ get_or es (todo - 1) x
     → entries_before todo es ≡ entries_before (todo - 1) es ++ entry_of x ∷ []
 last_entry es todo x l z e =
@@ -304,7 +304,7 @@ last_entry es todo x l z e =
     ap (λ n. entries_before n es) more ∙ ap (map entry_of) (take_more es (todo - 1) x (omega arith) ∙ ap (λ y. take (todo - 1) es ++ y ∷ []) (sym e))
     ∙ map-append entry_of (take (todo - 1) es) (x ∷ [])
 
--- a leaf is read from the list
+-- reading a leaf from the list
 pub leaf_at : (forest : Forest) (es : List Packed) (todo offset : ℕ) (frs : List Frame) (done : List Packed) (x : Packed) →
     todo ≤ length es → todo ≢ 0 → x ≡ get_or es (todo - 1) x → size_in x ≡ 0 → HasMore frs todo → IsWork forest (entries_before todo es) offset frs done →
     IsLeafRead forest (entries_before (todo - 1) es) offset frs done x.kind (len_or_start_in x)
@@ -313,7 +313,7 @@ leaf_at forest es todo offset frs done x l z e size o w =
     leaf_step forest (entries_before (todo - 1) es) offset frs done x.kind (len_or_start_in x)
     (rw (last_entry es todo x l z e, leaf_entry x size) at w) (subst (HasMore frs) same o)
 
--- so is a node
+-- reading a node from the list
 pub node_at : (forest : Forest) (es : List Packed) (todo offset : ℕ) (frs : List Frame) (done : List Packed) (x : Packed) (fr : Frame) (b : ℕ) →
     todo ≤ length es → todo ≢ 0 → x ≡ get_or es (todo - 1) x → size_in x ≡ suc b → fr.kind ≡ x.kind → fr.size ≡ size_in x → HasMore frs todo →
     IsWork forest (entries_before todo es) offset frs done → IsNodeRead forest (entries_before (todo - 1) es) offset frs done fr b
@@ -323,7 +323,7 @@ node_at forest es todo offset frs done x fr b l z e size kind same_size o w =
     node_step forest (entries_before (todo - 1) es) offset frs done fr b (same_size ∙ size) (rw (last_entry es todo x l z e, entry) at w)
     (subst (HasMore frs) same o)
 
--- the innermost frame is closed
+-- closing the innermost frame
 pub close_at : (forest : Forest) (es : List Packed) (todo offset : ℕ) (frames : List Frame) (done : List Packed) (fr : Frame) →
     todo ≤ length es → IsReached frames todo fr → IsWork forest (entries_before todo es) offset (reverse frames) done →
     IsWork forest (entries_before todo es) offset (reverse (take (length frames - 1) frames))
@@ -331,12 +331,12 @@ pub close_at : (forest : Forest) (es : List Packed) (todo offset : ℕ) (frames 
 close_at forest es todo offset frames done fr l h w =
     close_step forest (entries_before todo es) offset fr _ done (rw h.innermost at w) (h.reached ∙ sym (length-entries_before todo es l))
 
--- an element is placed in front of those that are
+-- an element is placed before those that are placed
 placed : (forest : Forest) (es : List Packed) (todo offset i : ℕ) (frs : List Frame) (x : Packed) → todo ≤ i → i < length es →
     IsWork forest (entries_before todo es) offset frs (x ∷ drop (i + 1) es) → IsWork forest (entries_before todo (set es i x)) offset frs (drop i (set es i x))
 placed forest es todo offset i frs x l h w = rw (take-set-le todo es i x l, drop-set es i x h) w
 
--- the node of the innermost frame is placed
+-- placing the node of the innermost frame
 pub node_placed : (forest : Forest) (es : List Packed) (todo offset i : ℕ) (frames rest : List Frame) (x : Packed) (fr : Frame) →
     todo + length frames ≤ length es → IsReached frames todo fr → rest ≡ take (length frames - 1) frames → i ≡ todo + length rest →
     x ≡ frame_kept fr offset (parent_number (reverse rest)) →
@@ -351,7 +351,7 @@ node_placed forest es todo offset i frames rest x fr l h r e is w =
     subst (λ n. IsWork forest (entries_before todo (set es i x)) offset (reverse rest) (drop n (set es i x))) e
     (placed forest es todo offset i (reverse rest) x (omega arith) (omega arith) (rw (one, is) closed))
 
--- a leaf is placed
+-- placing a leaf
 pub leaf_placed : (forest : Forest) (es : List Packed) (todo offset i : ℕ) (frames : List Frame) (k : SyntaxKind) (n : ℕ) (x : Packed) →
     todo + length frames ≤ length es → todo ≢ 0 → i ≡ todo - 1 + length frames → x ≡ packed k (offset - n) (parent_or_root (parent_number (reverse frames))) 0 →
     IsLeafRead forest (entries_before (todo - 1) es) offset (reverse frames) (drop (todo + length frames) es) k n →
@@ -361,7 +361,7 @@ leaf_placed forest es todo offset i frames k n x l z e is r =
     subst (λ m. IsWork forest (entries_before (todo - 1) (set es i x)) (offset - n) (reverse frames) (drop m (set es i x))) e
     (placed forest es (todo - 1) (offset - n) i (reverse frames) x (omega arith) (omega arith) (rw (one, is) r.work))
 
--- the frame of a node is open
+-- opening the frame of a node
 pub node_framed : (forest : Forest) (es : List Packed) (todo offset : ℕ) (frames more : List Frame) (fr : Frame) → todo ≢ 0 → more ≡ frames ++ fr ∷ [] →
     IsWork forest (entries_before (todo - 1) es) offset (fr ∷ reverse frames) (drop (todo + length frames) es) →
     IsWork forest (entries_before (todo - 1) es) offset (reverse more) (drop (todo - 1 + length more) es)
@@ -375,7 +375,7 @@ end_frames forest offset frs done w o =
     let none : length (rest_entries w.outer ++ entries_of w.current) ≡ 0 = sym (ap length w.entries) in
     no_frame frs w.outer w.aligned (omega (arith, length-append (rest_entries w.outer) (entries_of w.current))) o
 
--- all elements are placed
+-- if no entry is left, all elements are placed
 pub placed_all : (forest : Forest) (es : List Packed) (todo offset depth : ℕ) (frs : List Frame) → todo ≡ 0 → depth ≡ length frs → HasMore frs todo →
     IsWork forest (entries_before todo es) offset frs (drop (todo + depth) es) → es ≡ kept_from 0 0 None forest
 placed_all forest es todo offset depth frs z d o w =
@@ -387,7 +387,7 @@ placed_all forest es todo offset depth frs z d o w =
     let none : depth ≡ 0 = d ∙ ap length (end_frames forest offset frs (drop depth es) last more) in
     ap (λ n. drop n es) (sym none) ∙ end_work forest offset frs (drop depth es) last more
 
--- all is left to do of what a builder keeps
+-- at the beginning all of the builder's entries are left
 pub init_work : (forest : Forest) (es : List Packed) (offset todo : ℕ) (text : List ℕ) (frames : List Frame) → map entry_of es ≡ entries_of forest →
     offset ≡ length text → todo ≡ length es → text ≡ text_of forest → frames ≡ [] →
     IsWork forest (entries_before todo es) offset (reverse frames) (drop (todo + length frames) es)

@@ -10,7 +10,7 @@ passed_nothing n zero (suc room) = refl
 passed_nothing n (suc k) zero = refl
 passed_nothing n (suc k) (suc room) = refl
 
--- passing over k elements
+-- skipping `k` elements
 passed : (n k room : ℕ) (is : List Item) → passed_over n k room is ≡ passed_over (n + k) 0 (room - k) (drop k is)
 passed n zero room is =
     let a : n ≡ n + 0 = omega arith in
@@ -22,7 +22,7 @@ passed n (suc k) room (i ∷ is) =
     let b : room - 1 - k ≡ room - suc k = omega arith in
     passed (n + 1) k (room - 1) is ∙ ap (λ m. passed_over m 0 (room - 1 - k) (drop k is)) a ∙ ap (λ m. passed_over (n + suc k) 0 m (drop k is)) b
 
--- one step over siblings
+-- one step to the next sibling
 pub next_sibling : (is : List Item) (n end below : ℕ) → n < end → end ≤ length is → below ≡ (get_or is n no_item).below →
     siblings_between is n end ≡ n ∷ siblings_between is (n + 1 + below) end
 next_sibling is n end below l h e =
@@ -46,7 +46,7 @@ no_sibling is n end l =
     let none : end - n ≡ 0 = omega arith in
     ap (λ m. passed_over n 0 m (drop n is)) none ∙ passed_at_zero n (drop n is)
 
--- what is inside an element ends within the forest
+-- the elements inside one are within the forest
 pub below_fits : (n s : ℕ) (p : Option ℕ) (f : Forest) (m : ℕ) → m < element_count f → m + 1 + (get_or (items_from n s p f) m no_item).below ≤ element_count f
 below_fits n s p empty m l = absurd (omega arith)
 below_fits n s p (leaf k t f) zero l = omega arith
@@ -67,13 +67,13 @@ below_fits n s p (node k c f) (suc m) l =
           )
     ]
 
--- what is inside an element is in the tree
+-- the elements inside one are within the tree
 pub next_inside : (t : Tree) (m : ℕ) → m < length (items_of t) → m + 1 + (item t m).below ≤ length (items_of t)
 next_inside t m l =
     let count : length (items_of t) ≡ element_count (forest_of t) = length-items_from 0 0 None (forest_of t) in
     omega (arith, below_fits 0 0 None (forest_of t) m (omega arith))
 
--- the siblings of a forest are its trees
+-- the siblings of a forest's first element are its trees
 pub passed_trees : (n s : ℕ) (p : Option ℕ) (f : Forest) (rest : List Item) → passed_over n 0 (element_count f) (items_from n s p f ++ rest) ≡ tree_numbers n f
 passed_trees n s p empty rest = passed_at_zero n rest
 passed_trees n s p (leaf k u f) rest = ap (λ x. n ∷ x) (passed_trees (n + 1) (s + length u) p f rest)

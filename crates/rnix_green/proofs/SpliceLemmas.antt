@@ -1,4 +1,4 @@
--- A tree in which another node replaces a node is kept as the spliced elements and texts.
+-- A tree in which another node replaces a node, in terms of stored elements and texts.
 use Rattle.std.proofs.Common.{◌≡◌, ℕ, suc, ◌+◌, ◌-◌, ◌<◌, List, [], ◌∷◌, ◌++◌, length, map, take, drop, get_or, Some, None, refl}
 use Rattle.std.proofs.{Common.{ap, sym, ◌∙◌, subst, arith, append_assoc, length-append}, lemmas.List.{append-nil, take_at, drop_at}}
 use Rattle.rnix_kinds.specs.declared.kinds.SyntaxKind.{SyntaxKind}
@@ -23,7 +23,7 @@ no_trees empty e = refl
 no_trees (leaf k t f) e = absurd (omega arith)
 no_trees (node k c f) e = absurd (omega arith)
 
--- the only child of a root
+-- the only child of a root is this node
 pub record OnlyChild (t : Tree) : Type 0 where
   pub kind : SyntaxKind
   pub children : Forest
@@ -37,11 +37,11 @@ only_in k (node j c f) h =
     no_trees f (let alone = h.alone in omega (arith, elements_in_all record { kind = k; children = node j c f })) in
     record { kind = j; children = c; is = ap (node j c) none }
 
--- a root with one child, a node, has this child
+-- a root with one child that is a node has this only child
 pub only_child : (t : Tree) → HasOnlyChild t → OnlyChild t
 only_child t h = only_in t.kind t.children h
 
--- and a root with this child has one child
+-- a root with this only child has one child that is a node
 pub has_only_child : (t : Tree) (k : SyntaxKind) (c : Forest) → t.children ≡ node k c empty → HasOnlyChild t
 has_only_child t k c e =
     subst (λ f. HasOnlyChild record { kind = t.kind; children = f }) (sym e)
@@ -55,14 +55,14 @@ later empty = empty
 later (leaf k t f) = f
 later (node k c f) = f
 
--- a tree with another node in it is a tree
+-- a tree with another node in a context is one tree
 pub one_tree : (t : Tree) (x : Context) (k j : SyntaxKind) (c d : Forest) → forest_of t ≡ filled x k c → forest_of (as_tree (filled x j d)) ≡ filled x j d
 one_tree t (here f) k j c d e = ap (node j d) (ap later e)
 one_tree t (behind_leaf i u x) k j c d e = absurd (cc)
 one_tree t (behind_node i b x) k j c d e = absurd (let none = ap (λ f. element_count (later f)) e in omega (arith, count_around x k c))
 one_tree t (inside i x f) k j c d e = ap (node i (filled x j d)) (ap later e)
 
--- what is kept of the only child of a root, without the child itself
+-- the stored elements inside a root with one child are those of this child
 pub kept_inside : (t : Tree) (es : List Packed) (k : SyntaxKind) (c : Forest) → t.children ≡ node k c empty → es ≡ kept_from 0 0 None (forest_of t)
     → drop 2 es ≡ kept_from 2 0 (Some 1) c
 kept_inside t es k c e h =
@@ -133,13 +133,13 @@ module _ (x : Context) (k j : SyntaxKind) (c d : Forest) (es own : List Packed) 
       ∙ shifted_behind w 0 0 None x k j c d (omega (arith, below)) (omega (arith, size)) (omega (arith, is.end))
       (omega (arith, is.start, count)) (omega arith) (omega arith) (omega arith)
 
-  -- the spliced elements are those of the trees with the other node
+  -- the spliced elements are those of the context with the other node
   pub spliced_kept : spliced es n i j own len ≡ kept_from 0 0 None (filled x j d)
   spliced_kept =
       (λ q. new_first q ++ (new_node q ∷ (new_inside q ++ new_last q)))
       ∙ sym (kept_filled 0 0 None x j d n i.start (omega arith) (omega (arith, is.start)))
 
--- the text with another text in place of that of the node
+-- the text with another text in place of the node's
 pub spliced_text : (x : Context) (k j : SyntaxKind) (c d : Forest) (text new whole : List ℕ) (start end : ℕ) → text ≡ text_of (filled x k c)
     → new ≡ text_of d
     → start ≡ length (text_before x)
@@ -159,7 +159,7 @@ module _ (t o : Tree) (n : ℕ) (es fs new : List Packed) (text other whole : Li
     (end_is : end ≡ (item t n).end) (new_is : new ≡ spliced es n (item t n) kind (drop 2 fs) (length other))
     (whole_is : whole ≡ take start text ++ (other ++ drop end text)) (few : length es - suc (item t n).below + (length fs - 1) < limit)
     (short : length text - (end - start) + length other < limit) where
-  -- what is kept of the tree with the other node
+  -- the stored elements and the text of the tree with the other node
   pub new_kept : (x : Context) (k : SyntaxKind) (c : Forest) (j : SyntaxKind) (d : Forest) → forest_of t ≡ filled x k c → elements_before x ≡ n
       → o.children ≡ node j d empty
       → IsKept (as_tree (filled x j d)) new whole
@@ -207,14 +207,14 @@ module _ (t o : Tree) (n : ℕ) (es fs new : List Packed) (text other whole : Li
         few = omega (arith, few, is.below, count, new_count, many, count_filled x k j c d, count_around x k c);
       }
 
-  -- the elements and the text are those of one tree
+  -- the spliced elements and the text are those of one tree
   pub new_tree : IsNodeIn t n → IsKept (tree_from new whole) new whole
   new_tree there =
       let at = found t n there in
       let child = only_child o only in
       kept_again _ new whole (new_kept at.place at.kind at.children child.kind child.children at.is at.number child.is)
 
-  -- which has the other node in place of the node
+  -- in this tree, the other node replaces the node
   pub new_spliced : (u : Tree) → u ≡ tree_from new whole → IsSpliced t n o u
   new_spliced u h x k c j d e m g =
       ap forest_of (h ∙ tree_from_kept (as_tree (filled x j d)) new whole (new_kept x k c j d e m g)) ∙ one_tree t x k j c d e

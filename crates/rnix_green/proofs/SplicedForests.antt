@@ -1,4 +1,4 @@
--- What is kept of the trees around a node, with another node there.
+-- The stored elements of a context with another node in it.
 use Rattle.std.proofs.Common.{◌≡◌, ℕ, suc, ◌+◌, ◌-◌, ◌≤◌, ◌<◌, List, [], ◌∷◌, ◌++◌, length, map, Option, Some, refl, ap, sym, ◌∙◌, arith}
 use Rattle.std.proofs.{Common.{append_assoc, length-append}, lemmas.List.{map-append, length-map}}
 use Rattle.{std.specs.Prelude.if◌then◌else◌, rnix_kinds.specs.declared.kinds.SyntaxKind.SyntaxKind}
@@ -14,7 +14,7 @@ use Rattle.rnix_green.proofs.PackedLemmas.{packed_again}
 use Rattle.rnix_green.proofs.PieceLemmas.{length-items_from}
 use Rattle.rnix_green.proofs.ContextLemmas.{parent_around, count_filled, length_filled, count_around}
 
--- what is kept of a node, of what is inside it and of the trees after it
+-- the stored elements of a node, of those inside it, and of the trees after it
 pub kept_node : (n s : ℕ) (p : Option ℕ) (k : SyntaxKind) (c f : Forest) →
     kept_from n s p (node k c f)
     ≡ packed k s (parent_or_root p) (suc (element_count c))
@@ -23,11 +23,11 @@ kept_node n s p k c f =
     ap (λ z. packed k s (parent_or_root p) (suc (element_count c)) ∷ z)
     (map-append kept_of (items_from (n + 1) s (Some n) c) (items_from (n + 1 + element_count c) (s + length (text_of c)) p f))
 
--- as many as elements
+-- as many elements are stored as there are
 pub length-kept_from : (n s : ℕ) (p : Option ℕ) (f : Forest) → length (kept_from n s p f) ≡ element_count f
 length-kept_from n s p f = length-map (items_from n s p f) kept_of ∙ length-items_from n s p f
 
--- what is kept of the elements before a node, in a forest whose first element has the number i, the start s and the parent p
+-- the stored elements before the node of a context, in a forest whose first element has the number `i`, the start `s` and the parent `p`
 abbrev pub kept_before : ℕ → ℕ → Option ℕ → Context → SyntaxKind → Forest → List Packed
 kept_before i s p (here f) k c = []
 kept_before i s p (behind_leaf j t x) k c = packed j s (parent_or_root p) 0 ∷ kept_before (i + 1) (s + length t) p x k c
@@ -36,7 +36,7 @@ kept_before i s p (behind_node j d x) k c =
     ∷ (kept_from (i + 1) s (Some i) d ++ kept_before (i + 1 + element_count d) (s + length (text_of d)) p x k c)
 kept_before i s p (inside j x f) k c = packed j s (parent_or_root p) (suc (element_count (filled x k c))) ∷ kept_before (i + 1) s (Some i) x k c
 
--- what is kept of the elements behind it
+-- the stored elements after the node
 abbrev pub kept_behind : ℕ → ℕ → Option ℕ → Context → SyntaxKind → Forest → List Packed
 kept_behind i s p (here f) k c = kept_from (i + 1 + element_count c) (s + length (text_of c)) p f
 kept_behind i s p (behind_leaf j t x) k c = kept_behind (i + 1) (s + length t) p x k c
@@ -45,7 +45,7 @@ kept_behind i s p (inside j x f) k c =
     kept_behind (i + 1) s (Some i) x k c
     ++ kept_from (i + 1 + element_count (filled x k c)) (s + length (text_of (filled x k c))) p f
 
--- as many as come before the node
+-- there are as many as elements before the node
 pub length-kept_before : (i s : ℕ) (p : Option ℕ) (x : Context) (k : SyntaxKind) (c : Forest) → length (kept_before i s p x k c) ≡ elements_before x
 length-kept_before i s p (here f) k c = refl
 length-kept_before i s p (behind_leaf j t x) k c = ap suc (length-kept_before (i + 1) (s + length t) p x k c)
@@ -58,7 +58,7 @@ length-kept_before i s p (behind_node j d x) k c =
     )
 length-kept_before i s p (inside j x f) k c = ap suc (length-kept_before (i + 1) s (Some i) x k c)
 
--- what is kept is that of the elements before the node, of the node, and of those behind it
+-- the stored elements of a context with a node are those before the node, the node's, and those after it
 pub kept_filled : (i s : ℕ) (p : Option ℕ) (x : Context) (k : SyntaxKind) (c : Forest) (n o : ℕ) → n ≡ i + elements_before x → o ≡ s + length (text_before x)
     → kept_from i s p (filled x k c)
     ≡ kept_before i s p x k c
@@ -91,17 +91,17 @@ kept_filled i s p (inside j x f) k c n o e g =
     ∙ ap (λ z. first ∷ z) (append_assoc before (it ∷ (own ++ behind)) after)
     ∙ ap (λ z. first ∷ (before ++ (it ∷ z))) (append_assoc own behind after)
 
--- a parent before the shift stays
+-- a parent before the shift keeps its number
 pub stays_number : (w : Shift) (p : ℕ) → p < w.number → shifted_number w p ≡ p
 stays_number w p l = ap (λ b. if b then p else p + w.new_number - w.number) (is_below p w.number l)
 
--- another moves with the elements
+-- a parent after it moves with the elements
 pub moves_number : (w : Shift) (n m : ℕ) → w.number ≤ n → m + w.number ≡ n + w.new_number → shifted_number w n ≡ m
 moves_number w n m l e =
     let moved : n + w.new_number - w.number ≡ m = omega arith in
     ap (λ b. if b then n else n + w.new_number - w.number) (is_not_below n w.number l) ∙ moved
 
--- an element at another place
+-- a shifted element
 shifted_one : (w : Shift) (k : SyntaxKind) (s o p q z : ℕ) → w.start ≤ s → o + w.start ≡ s + w.new_start → shifted_number w p ≡ q → s < limit → p < limit
     → z < limit
     → shifted w (packed k s p z) ≡ packed k o q z
@@ -111,7 +111,7 @@ shifted_one w k s o p q z l e g ls lp lz =
     let size : word_of z ≡ z = packed_again z lz in
     λ i. packed k (start i) (parent i) (size i)
 
--- a forest at another place
+-- a shifted forest
 pub shifted_forest : (w : Shift) (n m s o : ℕ) (p q : Option ℕ) (f : Forest) → w.number ≤ n → m + w.number ≡ n + w.new_number → w.start ≤ s
     → o + w.start ≡ s + w.new_start
     → shifted_number w (parent_or_root p) ≡ parent_or_root q
@@ -143,7 +143,7 @@ shifted_forest w n m s o p q (node k c f) ln en ls es e lp few short =
     ∙ (λ i. one i ∷ (own i ++ more i))
     ∙ sym (kept_node m o q k c f)
 
--- the elements behind a node with more or fewer elements and another text
+-- the elements after a node with another size and text are shifted
 pub shifted_behind : (w : Shift) (i s : ℕ) (p : Option ℕ) (x : Context) (k j : SyntaxKind) (c d : Forest) →
     w.number ≡ i + elements_before x + suc (element_count c) → w.new_number ≡ i + elements_before x + suc (element_count d) →
     w.start ≡ s + length (text_before x) + length (text_of c) → w.new_start ≡ s + length (text_before x) + length (text_of d) →
@@ -174,11 +174,11 @@ shifted_behind w i s p (inside a x f) k j c d en em es eo lp few short =
     (kept_from (i + 1 + element_count (filled x k c)) (s + length (text_of (filled x k c))) p f)
     ∙ (λ z. own z ++ more z)
 
--- an element that ends before the node stays
+-- an element that ends before the node keeps its size
 stays_at : (m n old new : ℕ) (e : Packed) → m + size_in e ≤ n → resized_at m n old new e ≡ e
 stays_at m n old new e l = ap (λ b. if b then with_size old new e else e) (is_not_below n (m + size_in e) l)
 
--- a forest before the node stays
+-- a forest before the node keeps its sizes
 resized_forest : (n old new m o s : ℕ) (p : Option ℕ) (f : Forest) (rest : List Packed) → o ≡ m + element_count f → o ≤ n → element_count f < limit
     → resized m n old new (kept_from m s p f ++ rest) ≡ kept_from m s p f ++ resized o n old new rest
 resized_forest n old new m o s p empty rest e l few = (let same : m ≡ o = omega arith in ap (λ z. resized z n old new rest) same)
@@ -200,7 +200,7 @@ resized_forest n old new m o s p (node k c f) rest e l few =
     ∙ ap (λ z. first ∷ z) (sym (append_assoc xs ys (resized o n old new rest)))
     ∙ ap (λ z. z ++ resized o n old new rest) (sym (kept_node m s p k c f))
 
--- a node that holds it has more or fewer elements
+-- a node around it has more or fewer elements
 resized_one : (m n old new : ℕ) (k : SyntaxKind) (s p y z : ℕ) → n < m + y → y + new ≡ z + old → s < limit → p < limit → y < limit
     → resized_at m n old new (packed k s p y) ≡ packed k s p z
 resized_one m n old new k s p y z l e ls lp ly =
@@ -211,7 +211,7 @@ resized_one m n old new k s p y z l e ls lp ly =
     ap (λ b. if b then with_size old new it else it) (is_below n (m + word_of y) (omega (arith, packed_again y ly)))
     ∙ (λ i. packed k (start i) (parent i) (size i))
 
--- the elements before a node with more or fewer elements
+-- the elements before a node with another size
 pub resized_before : (n i s : ℕ) (p : Option ℕ) (x : Context) (k j : SyntaxKind) (c d : Forest) → n ≡ i + elements_before x → parent_or_root p < limit
     → i + element_count (filled x k c) < limit
     → s + length (text_of (filled x k c)) < limit

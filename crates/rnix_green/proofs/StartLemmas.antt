@@ -1,15 +1,15 @@
--- Where the elements of a tree start: in preorder no start comes before an earlier one.
+-- Where the elements of a tree start: in preorder, starts never decrease.
 use Rattle.std.proofs.Common.{subst, ◌≡◌, ℕ, zero, suc, ◌+◌, ◌-◌, ◌≤◌, ◌<◌, ◌++◌, length, Option, Some, false, refl, ap, sym, ◌∙◌, arith, inl, inr}
 use Rattle.{std.proofs.{Common.length-append, lemmas.Bool.cases_lt}, rnix_green.specs.{Forest.{Forest, empty, leaf, node, text_of, element_count}, Tree.Item}}
 use Rattle.rnix_green.proofs.NestLemmas.{at, inside, beyond, behind}
 
--- an element lies in the text of its forest
+-- an element's range is within the text of its forest
 pub record IsBetween (s e : ℕ) (i : Item) : Type 0 where
   pub low : s ≤ i.start
   pub ordered : i.start ≤ i.end
   pub high : i.end ≤ e
 
--- an element is inside the text of its forest
+-- this holds for each element of a forest
 pub in_text : (n s : ℕ) (p : Option ℕ) (f : Forest) (i : ℕ) → i < element_count f → IsBetween s (s + length (text_of f)) (at n s p f i)
 in_text n s p empty i l = absurd (omega arith)
 in_text n s p (leaf k t f) zero l = record { low = omega arith; ordered = omega arith; high = omega (arith, length-append t (text_of f)) }
@@ -28,12 +28,12 @@ in_text n s p (node k c f) (suc i) l = elim (behind n s p k c f i) as (λ b. IsB
       (record { low = omega (arith, h.low); ordered = h.ordered; high = omega (arith, h.high, length-append (text_of c) (text_of f)) })
 ]
 
--- an element before another starts before it, and ends before it unless the other is inside it
+-- an element before another starts no later, and ends no later than the other starts unless the other is inside it
 pub record IsBefore (i : ℕ) (a : Item) (j : ℕ) (b : Item) : Type 0 where
   pub starts : a.start ≤ b.start
   pub ends : i + a.below < j → a.end ≤ b.start
 
--- an element begins no later than those after it, and ends before those that it does not hold
+-- this holds for any two elements of a forest
 pub in_order : (n s : ℕ) (p : Option ℕ) (f : Forest) (i j : ℕ) → i < j → j < element_count f → IsBefore i (at n s p f i) j (at n s p f j)
 in_order n s p empty i j l h = absurd (omega arith)
 in_order n s p f i zero l h = absurd (omega arith)
@@ -98,7 +98,7 @@ in_order n s p (node k c f) (suc i) (suc j) l h =
       ends = λ h. omega (arith, ends, ap (λ (z : Item). z.end) e, ap (λ (z : Item). z.start) g);
     }
 
--- a leaf of a forest whose range has the byte before the offset
+-- a leaf of a forest whose range contains the byte before the offset
 pub record HasLeft (n s : ℕ) (p : Option ℕ) (f : Forest) (o : ℕ) : Type 0 where
   pub index : ℕ
   pub there : index < element_count f
@@ -106,7 +106,7 @@ pub record HasLeft (n s : ℕ) (p : Option ℕ) (f : Forest) (o : ℕ) : Type 0 
   pub low : (at n s p f index).start < o
   pub high : o ≤ (at n s p f index).end
 
--- a byte of a forest's text is one of its tokens'
+-- each byte of a forest's text is in a leaf
 pub has_left : (n s : ℕ) (p : Option ℕ) (f : Forest) (o : ℕ) → s < o → o ≤ s + length (text_of f) → HasLeft n s p f o
 has_left n s p empty o l h = absurd (omega arith)
 has_left n s p (leaf k t f) o l h = elim (cases_lt (s + length t) o) [

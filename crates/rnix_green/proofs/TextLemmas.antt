@@ -1,10 +1,10 @@
--- How a text is taken part by part.
+-- A text that is consumed part by part.
 use Rattle.std.proofs.{Common.{◌≡◌, ℕ, ◌+◌, ◌-◌, ◌≤◌, ◌<◌, List, ◌++◌, length, take, drop, ap, sym, ◌∙◌, arith, length-append}, lemmas.List.take-append-drop}
 use Rattle.std.{proofs.lemmas.List.{take-append-le, drop-take, drop-drop, length-take-le, length-drop}, specs.{Prelude.slice_range, Str.IsUtf8}}
 use Rattle.rnix_green.{specs.{declared.entries.Entries.Entries, Draft.{Draft, TextDraft, taken}, Packed.limit}, proofs.EntriesLemmas.held-added}
 use Rattle.rnix_green.specs.Entries.{draft_in, text_draft_of, IsTextBuilder, AreSame, IsAdded}
 
--- a text is no shorter than what it begins with
+-- a text is at least as long as its beginning
 pub begins_short : (part remaining : List ℕ) → take (length part) remaining ≡ part → length part ≤ length remaining
 begins_short part remaining h =
     omega (
@@ -15,11 +15,11 @@ begins_short part remaining h =
           (drop (length part) remaining),
     )
 
--- there is as much text as is taken and what is next
+-- the consumed text and the next part are within the text
 pub taken_within : (text part : List ℕ) (m : ℕ) → m ≤ length text → take (length part) (drop m text) ≡ part → m + length part ≤ length text
 taken_within text part m w h = omega (arith, begins_short part (drop m text) h, length-drop m text)
 
--- what is taken together with what is next
+-- the consumed text, with the next part, is consumed text
 pub taken_more : (text part : List ℕ) (m : ℕ) → m ≤ length text → take (length part) (drop m text) ≡ part → take (m + length part) text ≡ take m text ++ part
 taken_more text part m w h =
     let n = m + length part in
@@ -29,15 +29,15 @@ taken_more text part m w h =
     sym (take-append-drop m (take n text)) ∙ ap (λ x. x ++ drop m (take n text)) first
     ∙ ap (λ x. take m text ++ x) (drop-take m (length part) text ∙ h)
 
--- and what is left after it
+-- the rest of the text after the next part
 pub remaining_more : (text part : List ℕ) (m : ℕ) → drop (m + length part) text ≡ drop (length part) (drop m text)
 remaining_more text part m = sym (drop-drop (length part) m text)
 
--- the part of a text from its start on
+-- the slice of a text from its start on
 pub first_range : (text : List ℕ) (n : ℕ) → slice_range text 0 n ≡ take n text
 first_range text n = let all : n - 0 ≡ n = omega arith in ap (λ m. take m text) all
 
--- a tree takes the next part of the text
+-- adding a tree consumes the next part of the text
 pub text-added : (text part : List ℕ) (m : ℕ) (e mid later : Entries) (added : List ℕ → Draft → Draft) → IsTextBuilder text m e →
     take (length part) (drop m text) ≡ part → AreSame e mid → IsAdded mid later (length part) added → IsUtf8 part →
     let n = m + length part in

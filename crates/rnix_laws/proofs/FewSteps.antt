@@ -7,7 +7,7 @@ use Rattle.rnix_proof_steps.{specs.StepCount.{steps_in, IsReadIn}, proofs.Budget
 use Rattle.rnix_reader.{specs.Holds.IsThrough, proofs.EachText.each_through}
 use Rattle.rnix_parser.proofs.OneReading.{one_reading, read_parsed}
 
--- a run of the reader over some tokens with a number of steps that is small enough
+-- the machine reads the tokens as this tree with these errors, in a number of steps within the bounds
 record IsReadFew (ls : List Lexeme) (tree : Tree) (faults : List Fault) : Type 0 where
   read : IsRead ls tree faults
   few_by_items : 2 * steps_in read.runs ≤ 15 * length (items (placed_from 0 ls)) + 2
@@ -38,7 +38,7 @@ each_few ls =
       ),
     )
 
--- so it is for the reading of the tokens, since there is no other
+-- this holds for each reading of a text, since there is no other
 few_steps : (ls : List Lexeme) (tree : Tree) (faults : List Fault) → AreRuled ls → IsReading ls tree faults → IsReadFew ls tree faults
 few_steps ls tree faults ruled r =
     let found : (tree : Tree) × ((faults : List Fault) × IsReadFew ls tree faults) = each_few ls in

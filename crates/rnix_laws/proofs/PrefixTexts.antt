@@ -1,4 +1,4 @@
--- The items with which a text without errors begins have no error.
+-- The items with which a text without errors begins have no error in any other text.
 use Rattle.{std.proofs.Common.{◌≡◌, ℕ, false, List, take, None, refl, sym, subst}, rnix_kinds.specs.Lexical.Tokens.tokens_of}
 use Rattle.rnix_grammar.specs.AnnotatedForest.{AnnotatedForest, tokens_in, without_trivia, placed_from, end_from}
 use Rattle.{rnix_proof_uniqueness.proofs.AllReads.{ended_with, reads_runs}, rnix_proof_layout.specs.AlikeItems.AreAlike}
@@ -6,7 +6,7 @@ use Rattle.rnix_proof_prefix.{specs.Prefix.{BeginAllFrom, end_undecided}, proofs
 use Rattle.{rnix_proof_prefix.proofs.PrefixReadings.prefix_readings, rnix_parser.specs.ReadAlike.items_of, rnix_laws.specs.ReadPrefix.HasCorrectPrefix}
 use Rattle.rnix_parser.proofs.OneReading.{reading_items}
 
--- each reading is what the steps make
+-- each reading is the result of the steps
 all_run : AllRun
 all_run f ds r = record { last = ended_with f (end_from 0 (tokens_in f)) ds; runs = reads_runs f ds r; over = refl; clean = (tt, tt); faults = refl }
 

@@ -15,7 +15,7 @@ pub reading_items : {ls : List Lexeme} {tree : Tree} {faults : List Fault} (r : 
     tokens_in (without_trivia r.annotated) ≡ items (placed_from 0 ls)
 reading_items r = without_trivia_tokens r.annotated ∙ ap items r.leaves
 
--- two readings of some tokens are one
+-- two readings of some tokens are equal
 pub one_reading : (ls : List Lexeme) (t u : Tree) (ds es : List Fault) → IsReading ls t ds → IsReading ls u es → (t ≡ u) × (ds ≡ es)
 one_reading ls t u ds es r s =
     let same : (without_trivia r.annotated ≡ without_trivia s.annotated) × (ds ≡ es) = one_row (without_trivia r.annotated) (without_trivia s.annotated) ds es
@@ -30,7 +30,7 @@ texts-++ : (ts us : List Token) → texts_in (ts ++ us) ≡ texts_in ts ++ texts
 texts-++ [] us = refl
 texts-++ (t ∷ ts) us = ap (λ z. t.text ++ z) (texts-++ ts us) ∙ sym (append_assoc t.text (texts_in ts) (texts_in us))
 
--- the text of a tree is that of its tokens
+-- the text of an annotated tree is that of its tokens
 annotated_text : (f : AnnotatedForest) → text_of (forget f) ≡ texts_in (tokens_in f)
 annotated_text blank = refl
 annotated_text (token k t f) = ap (λ z. t.text ++ z) (annotated_text f)
@@ -44,7 +44,7 @@ pub reading_text : (ls : List Lexeme) (tree : Tree) (faults : List Fault) → Is
 reading_text ls tree faults r =
     ap (λ (t : Tree). text_of t.children) r.tree_is ∙ annotated_text r.annotated ∙ ap texts_in r.leaves ∙ placed_text 0 ls
 
--- two texts of which one tree is read are one text, with the same errors
+-- two texts that are read as the same tree are equal, and have the same errors
 pub one_text : (s t : List ℕ) (tree : Tree) (ds es : List Fault) → AreSound s (tokens_of s) → AreSound t (tokens_of t) → IsReading (tokens_of s) tree ds →
     IsReading (tokens_of t) tree es
     → (s ≡ t) × (ds ≡ es)
@@ -52,7 +52,7 @@ one_text s t tree ds es x y r q =
     let same : s ≡ t = sym x.joined ∙ sym (reading_text (tokens_of s) tree ds r) ∙ reading_text (tokens_of t) tree es q ∙ y.joined in
     (same, (one_reading (tokens_of s) tree tree ds es r (subst (λ (z : List ℕ). IsReading (tokens_of z) tree es) (sym same) q)).1)
 
--- what the steps read is a reading
+-- the result of the steps is a reading
 read_reading : (ls : List Lexeme) (tree : Tree) (faults : List Fault) → IsRead ls tree faults → IsReading ls tree faults
 read_reading ls tree faults r =
     let ts : List Token = placed_from 0 ls in
@@ -74,6 +74,6 @@ read_reading ls tree faults r =
 pub has_reading : (ls : List Lexeme) → (tree : Tree) × ((faults : List Fault) × IsReading ls tree faults)
 has_reading ls = let r = each_read ls in (r.0, (r.1.0, read_reading ls r.0 r.1.0 r.1.1))
 
--- all that is promised holds of what the reader has read
+-- everything that is promised holds of the result of the steps
 pub read_parsed : (ls : List Lexeme) (tree : Tree) (faults : List Fault) → IsRead ls tree faults → AreRuled ls → IsParsed ls tree faults
 read_parsed ls tree faults r ruled = all_follows ls tree faults ruled (read_reading ls tree faults r)

@@ -13,7 +13,7 @@ use Rattle.rnix_proof_rows.proofs.WithAllTrivia.{placed_leaf_kinds, placed_fault
 use Rattle.rnix_proof_rows.proofs.{ReadsLeafKinds.reads_leaf_kinds, ReadsShapes.{AreErrorFreeRows, repaired_none, root_rows}, ErrorFreeDerivations.derived}
 use Rattle.{rnix_proof_soundness.proofs.Converse.converse, rnix_proof_strict.proofs.GrammarLeaves.expression_fine, rnix_parser.proofs.Found.derivation_found}
 
--- the conditions under which a tree without trivia is a derivation
+-- what is known of a tree without trivia that may be a derivation
 record IsFit (f : AnnotatedForest) (ts : List Token) (es : List Fault) : Type 0 where
   pub tokens : tokens_in f ≡ ts
   pub bare : es ≡ [] → AreErrorFreeRows f
@@ -41,7 +41,7 @@ exact f ts es w paths = (there, back)
         let r = w.found h.0 h.1 in
         (r.0, ap (has_no_extension NODE_ROOT) r.1 ∙ (expression_fine h.1.strict).extension)
 
--- everything that is promised about a tree and its errors follows from their being a reading
+-- everything that is promised of a tree and its errors follows if they are a reading
 pub all_follows : (ls : List Lexeme) (tree : Tree) (faults : List Fault) → AreRuled ls → IsReading ls tree faults → IsParsed ls tree faults
 all_follows ls tree faults ruled r =
     let ts : List Token = placed_from 0 ls in

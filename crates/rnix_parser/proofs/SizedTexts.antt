@@ -1,10 +1,10 @@
--- The elements of a text's tree are at most three for each byte, and three more.
+-- The tree of a text has at most three elements for each byte, plus three.
 use Rattle.std.proofs.{Common.{◌≤◌, ◌<◌, ◌+◌, ◌*◌, ◌≡◌, ℕ, List, [], ◌∷◌, ◌++◌, length, ap, arith}, lemmas.List.{length-append, Elements.{All-head, All-tail}}}
 use Rattle.{std.specs.{List.All, Prelude.flat_map}, rnix_kinds.specs.Lexical.Tokens.{Lexeme, text_of, AreSound, tokens_of}}
 use Rattle.{rnix_green.specs.{Forest.element_count, Tree.{Tree, forest_of}}, rnix_grammar.specs.{Fault.Fault, Reading.IsReading}}
 use Rattle.rnix_proof_size.proofs.SizedReadings.{sized_by_tokens}
 
--- each token takes a byte
+-- there are at most as many tokens as bytes
 few_tokens : (ls : List Lexeme) → All (λ (l : Lexeme). 0 < length l.1) ls → length ls ≤ length (flat_map text_of ls)
 few_tokens [] h = omega arith
 few_tokens (l ∷ ls) h =

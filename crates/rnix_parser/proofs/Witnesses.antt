@@ -1,4 +1,4 @@
--- Wrong trees of broken texts, and proofs that none of them is what the text is read as, whatever its errors.
+-- Wrong trees of broken texts. None of them is the tree of its text, whatever the errors.
 use Rattle.std.{proofs.Common.{◌≡◌, true, false, Bool, List, ℕ, refl, ap, sym, ◌∙◌}, specs.{Prelude.{codes, ◌&&◌}, Str.chars, Char.encode_utf8}}
 use Rattle.rnix_kinds.specs.Lexical.{Tokens.{tokens_of, normal_cut, cut_at, tokens_behind}, Texts.{space_len, begins_space, char_len}}
 use Rattle.{rnix_green.specs.{Equality.same_kind, Forest.{Forest, empty, leaf, node}, Tree.Tree}, rnix_grammar.specs.{Fault.Fault, AnnotatedForest.Token}}
@@ -28,17 +28,17 @@ read_as c only tree faults r =
     (only (without_trivia r.annotated) faults own r.reads).0 in
     ap (λ (t : Tree). t.children) r.tree_is ∙ ap forget r.placed ∙ ap (λ (f : AnnotatedForest). forget (with_all_trivia f ts)) (sym same)
 
--- the tree below the root that is claimed of a text
+-- a tree with these trees below its root
 abbrev root : Forest → Tree
 root f = record { kind = k.NODE_ROOT; children = f }
 
--- no errors make a tree of other kinds what such a text is read as
+-- a tree with other kinds is not the tree of such a text, whatever the errors
 refute : (c : Case) → IsMade c → (wrong : Forest) → alike wrong (tree_of c) ≡ false → alike (tree_of c) (tree_of c) ≡ true
     → (faults : List Fault) → IsParsed (tokens_of c.text) (root wrong) faults → ⊥
 refute c made wrong differ same faults p =
     true_is_not_false (sym same ∙ ap (λ (f : Forest). alike f (tree_of c)) (sym (read_as c (holds c made) (root wrong) faults p.reading)) ∙ differ)
 
--- so it is with a text and a tree
+-- the tree is not that of the text, whatever the errors
 abbrev IsRefuted : List ℕ → Forest → Type 0
 IsRefuted text wrong = (faults : List Fault) → IsParsed (tokens_of text) (root wrong) faults → ⊥
 

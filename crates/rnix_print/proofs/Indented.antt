@@ -1,16 +1,16 @@
--- What is printed of a tree that is no deeper than 100 levels is what `dump` prints of it.
+-- What is printed of a tree that is at most 100 levels deep is what `dump` prints.
 use Rattle.std.proofs.Common.{◌≡◌, ℕ, ◌+◌, ◌-◌, ◌≤◌, true, false, nat_lt, List, [], ◌∷◌, ◌++◌, refl, ap, ◌∙◌, append-nil, arith}
 use Rattle.{std.{proofs.lemmas.Bool.Decides.nat_tests, specs.Prelude.{decimal, codes, if◌then◌else◌}}, rnix_kinds.specs.SyntaxKind.name_of}
 use Rattle.{rnix_green.specs.{Tree.{Located, item_of, extent_of}, Walk.{Event, preorder_of}}, rnix_tree.specs.Lines.{indent, range_end, lines_of}}
 use Rattle.{rnix_tree.{specs.Walked.event_lines, proofs.DumpLemmas.finished}, rnix_print.specs.OutputLines.{margin, walk_lines, tree_lines}}
 
--- each element that a walk enters is at level 100 or above
+-- each element that a walk enters is at level 100 or less deep
 abbrev pub IsIndented : ℕ → List Event → Type 0
 IsIndented depth [] = Unit {0}
 IsIndented depth ((true, spot) ∷ events) = (depth ≤ 100) × IsIndented (depth + 1) events
 IsIndented depth ((false, spot) ∷ events) = IsIndented (depth - 1) events
 
--- there a line begins with two spaces for each level
+-- at such a level a line begins with two spaces for each level
 margin_is : (depth : ℕ) → depth ≤ 100 → margin depth ≡ indent depth
 margin_is depth h =
     let low : nat_lt 100 depth ≡ false = grind (arith, nat_tests) in

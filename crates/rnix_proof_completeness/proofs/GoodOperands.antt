@@ -1,4 +1,4 @@
--- Expressions of the grammar as operands: how tightly they bind, what may follow them, how they begin, and where they stand.
+-- Expressions of the grammar as operands: how tightly they bind, what may follow them, how they begin, and where they may be.
 use Rattle.std.{specs.List.list_all, proofs.Common.{◌≡◌, ℕ, zero, suc, Bool, true, false, List, [], ◌∷◌, ◌++◌, Option, Some, None, refl, ap, sym, ◌∙◌, subst, arith}}
 use Rattle.std.proofs.{Common.{◌≤◌, ◌+◌, ◌&&◌, ◌||◌, if◌then◌else◌, append_assoc, nat_le}, lemmas.Bool.{and_parts, Decides.nat_tests}}
 use Rattle.rnix_kinds.specs.declared.kinds.SyntaxKind.{SyntaxKind, TheVariants.{TOKEN_DOT, TOKEN_IDENT, TOKEN_LET}}
@@ -17,18 +17,18 @@ use Rattle.rnix_proof_lemmas.proofs.EachBeginning.{highest, kind_up_to, first_up
 use Rattle.rnix_proof_completeness.proofs.OverTokens.{Over, over_leaf, over_node, stands_so, Opens, opened_so}
 use Rattle.rnix_proof_completeness.proofs.PartReads.{Follow, Before, depth_in, room, Rest, Any, Node, Next, Placed, node_on, is_part, part_so, uncounted}
 
--- the tokens that continue an expression before them, and how tightly it has to bind
+-- the tokens that continue the expression before them, and the level that this expression must have
 abbrev pub takes_left : SyntaxKind → Bool
 takes_left i = is_infix i || (is_question i || is_fn_arg i)
 
 abbrev pub operand_level : SyntaxKind → ℕ
 operand_level i = if is_infix i then left_of i else (if is_question i then 13 else 15)
 
--- what binds at the first level may precede operators up to the second: looser ones, and all that take it as their operand
+-- anything looser than a level may follow it, and so may each token that continues an expression of the level
 abbrev pub agree : ℕ → ℕ → Bool
 agree l h = nat_le l (suc h) && list_all (λ i. if takes_left i then (if nat_le (operand_level i) l then binds_at_most h (Some i) else true) else true) all_kinds
 
--- a token that takes a tree as its operand follows it
+-- a token that takes its left operand at a level continues each tree of that level
 pub follows_left : (i : SyntaxKind) (x : AnnotatedForest) → takes_left i ≡ true → nat_le (operand_level i) (row_level x) ≡ true → follows i x ≡ true
 follows_left i x h e = by (is_infix i) (is_question i) (is_fn_arg i) h e
   where
@@ -40,7 +40,7 @@ follows_left i x h e = by (is_infix i) (is_question i) (is_fn_arg i) h e
     by false false true h e = e
     by false false false h e = absurd (true_is_not_false (sym h))
 
--- what may follow at a level may follow at a tighter one
+-- what may follow a level may follow a tighter one
 pub binds_at_most_more : (m n : ℕ) (next : Option SyntaxKind) → m ≤ n → binds_at_most m next ≡ true → binds_at_most n next ≡ true
 binds_at_most_more m n None l h = refl
 binds_at_most_more m n (Some k) l h = by (is_bound k) h
@@ -49,7 +49,7 @@ binds_at_most_more m n (Some k) l h = by (is_bound k) h
     by true e = absurd (cc)
     by false e = let o = at_most (binding_power k) m e in at_most_true (binding_power k) n (omega (arith, l, o))
 
--- and what may follow at any level ends a name
+-- what may follow some level does not make a longer name or path
 pub wide : (m : ℕ) (next : Option SyntaxKind) → binds_at_most m next ≡ true → binds_at_most 16 next ≡ true
 wide m None h = refl
 wide m (Some k) h = by (is_bound k) h
@@ -63,12 +63,12 @@ abbrev pub is_known : SyntaxKind → Bool
 is_known NODE_ERROR = false
 is_known k = true
 
--- an operand of a level begins as its first three items say, and with a tree
+-- an operand of a level begins with the tree that its first three items determine, and this tree is no error node
 abbrev pub Begun : ℕ → AnnotatedForest → List Token → Type 0
 Begun l x [] = ⊥
 Begun l x (t ∷ ts) = (first_kind l t.kind t.text (head_kind ts) (second_kind ts) ≡ first_tree x) × (is_known (first_tree x) ≡ true)
 
--- what begins an operand begins the same at each looser level
+-- the same items begin the same tree at each looser level
 lower : (n l : ℕ) (o : Option ℕ) (k : SyntaxKind) → n ≤ l → is_known (kind_up_to o l k) ≡ true → kind_up_to o n k ≡ kind_up_to o l k
 lower n l None k m h = refl
 lower n l (Some top) k m h = by (nat_le n top) (nat_le l top) (λ e. grind (arith, nat_tests, e, m)) h
@@ -88,7 +88,7 @@ pub begun_lower : (n l : ℕ) (x : AnnotatedForest) (ts : List Token) → n ≤ 
 begun_lower n l x [] m w = w
 begun_lower n l x (t ∷ ts) m w = (first_lower n l t.kind t.text (head_kind ts) (second_kind ts) m (ap is_known w.0 ∙ w.1) ∙ w.0, w.1)
 
--- and so does what begins with the same tree
+-- an operand begins as another one does whose first tree is the same
 begun_same : (l : ℕ) (x y : AnnotatedForest) (ts : List Token) → first_tree x ≡ first_tree y → Begun l x ts → Begun l y ts
 begun_same l x y [] e w = w
 begun_same l x y (t ∷ ts) e w = (w.0 ∙ e, ap is_known (sym e) ∙ w.1)
@@ -103,7 +103,7 @@ begun_opens : (test : SyntaxKind → Bool) (l : ℕ) (x : AnnotatedForest) (ts :
 begun_opens test l x [] h w = w
 begun_opens test l x (t ∷ ts) h w = h t.kind t.text (head_kind ts) (second_kind ts) (ap is_known w.0 ∙ w.1)
 
--- the tokens that an expression may begin with
+-- the tokens with which an expression may begin
 abbrev pub is_start : SyntaxKind → Bool
 is_start i = is_known (first_kind 0 i [] None None)
 
@@ -115,7 +115,7 @@ argument_is : (i : SyntaxKind) (text : List ℕ) (second third : Option SyntaxKi
 argument_is TOKEN_IDENT text second third h = refl
 argument_is _ text second third h = cc
 
--- An expression of the grammar that is at a level: how tightly it binds, the tightest operators after it, its row, and how it begins.
+-- An expression of the grammar at a level: how tightly it binds, the tightest operators that may follow it, its row, and how it begins.
 pub record Good (n : ℕ) (k : SyntaxKind) (c : Forest) : Type 0 where
   pub level : ℕ
   pub max_bp : ℕ
@@ -126,7 +126,7 @@ pub record Good (n : ℕ) (k : SyntaxKind) (c : Forest) : Type 0 where
   pub tight : (b : AnnotatedForest) → Over c b → nat_le level (level_of k b) ≡ true
   pub begins : (b f : AnnotatedForest) (us : List Token) → Over c b → binds_at_most 16 (head_kind us) ≡ true → Begun level (branch k b f) (tokens_in b ++ us)
 
--- and it is at each looser level
+-- an expression at a level is one at each looser level
 pub good_looser : {m n : ℕ} {k : SyntaxKind} {c : Forest} → n ≤ m → Good m k c → Good n k c
 good_looser {m} {n} {k} l g = record {
   level = g.level;
@@ -139,11 +139,11 @@ good_looser {m} {n} {k} l g = record {
   begins = g.begins;
 }
 
--- what may follow an expression may be less
+-- what may follow an expression may be restricted further
 pub node_looser : {N F : Follow} {k : SyntaxKind} {c : Forest} → ((o : Option SyntaxKind) → F o ≡ true → N o ≡ true) → Node N k c → Node F k c
 node_looser h w = record { reads = λ d n b us o j a m z. w.reads d n b us o j a m (h (head_kind us) z) }
 
--- what may follow where a level is asked for may follow it
+-- an expression may be followed by anything that is looser than its level
 pub good_node : {n : ℕ} {k : SyntaxKind} {c : Forest} → Good n k c → Node (binds_at_most (below n)) k c
 good_node {n} g = node_looser (λ o z. binds_at_most_more (below n) g.max_bp o (by n g.min_bp
     (at_most g.level (suc g.max_bp) (and_parts (nat_le g.level (suc g.max_bp)) _ g.agrees).0)) z) g.node
@@ -152,13 +152,13 @@ good_node {n} g = node_looser (λ o z. binds_at_most_more (below n) g.max_bp o (
     by zero l e = omega arith
     by (suc n) l e = omega (arith, l, e)
 
--- it may precede a token that takes it as its operand
+-- an expression may precede a token that takes it as its left operand
 pub good_before : {n : ℕ} {k : SyntaxKind} {c : Forest} (g : Good n k c) (i : SyntaxKind) → takes_left i ≡ true → operand_level i ≤ n
     → binds_at_most g.max_bp (Some i) ≡ true
 good_before {n} g i t l = whenever_both takes_left (λ j. nat_le (operand_level j) g.level) (λ j. binds_at_most g.max_bp (Some j))
     (and_parts (nat_le g.level (suc g.max_bp)) _ g.agrees).1 i t (at_most_true (operand_level i) g.level (omega (arith, l, g.min_bp)))
 
--- which follows it
+-- that token continues the expression
 pub good_follows : {n : ℕ} {k : SyntaxKind} {c : Forest} → Good n k c → (i : SyntaxKind) → takes_left i ≡ true → operand_level i ≤ n → (b : AnnotatedForest)
     → Over c b
     → follows i (one_branch k b) ≡ true
@@ -170,12 +170,12 @@ both_no : (v w : Bool) → (v ≡ true → w ≡ false) → (v && w) ≡ false
 both_no true w h = h refl
 both_no false w h = refl
 
--- what continues a tree binds
+-- a token that continues a tree has a binding power
 follows_binding_power : (i : SyntaxKind) (x : AnnotatedForest) → follows i x ≡ true → nat_le 1 (binding_power i) ≡ true
 follows_binding_power TOKEN_DOT x h = refl
 follows_binding_power _ x h = cc
 
--- where only looser operators follow, none continues an operand
+-- if only looser operators follow, none of them continues an operand
 stops_here : (level : ℕ) (x : AnnotatedForest) (ts : List Token) → binds_at_most (below level) (head_kind ts) ≡ true → is_continued level x ts ≡ false
 stops_here level x [] h = refl
 stops_here level x (t ∷ ts) h = both_no (follows t.kind x) (nat_le level (binding_power t.kind))
@@ -188,7 +188,7 @@ stops_here level x (t ∷ ts) h = both_no (follows t.kind x) (nat_le level (bind
     by zero false h true e l = absurd (grind (arith, nat_tests, h, l))
     by (suc n) false h true e l = absurd (grind (arith, nat_tests, h, e))
 
--- an expression is an operand before what is looser than its level
+-- an expression is an operand of its level before anything looser
 pub operand_at : {n : ℕ} {k : SyntaxKind} {c : Forest} → Good n k c → (b : AnnotatedForest) (us : List Token) → Over c b
     → binds_at_most (below n) (head_kind us) ≡ true
     → IsOperandOf (Some n) (one_branch k b) us
@@ -201,14 +201,14 @@ operand_at {n} {k} g b us o z =
       stops_here n (one_branch k b) us z,
     )
 
--- it begins with a token that an expression begins with
+-- an expression begins with a token with which expressions begin
 pub good_opens : {n : ℕ} {k : SyntaxKind} {c : Forest} → Good n k c → (b : AnnotatedForest) (us : List Token) → Over c b
     → binds_at_most 16 (head_kind us) ≡ true
     → Opens is_start (tokens_in b ++ us)
 good_opens {k = k} g b us o z = begun_opens is_start 0 (one_branch k b) (tokens_in b ++ us) start_is
     (begun_lower 0 g.level (one_branch k b) (tokens_in b ++ us) (omega arith) (g.begins b blank us o z))
 
--- and an argument with one that an argument begins with
+-- an argument begins with a token with which arguments begin
 pub argument_opens : {k : SyntaxKind} {c : Forest} → Good 16 k c → (b : AnnotatedForest) (us : List Token) → Over c b → binds_at_most 16 (head_kind us) ≡ true
     → Opens is_fn_arg (tokens_in b ++ us)
 argument_opens {k} g b us o z = begun_opens is_fn_arg 16 (one_branch k b) (tokens_in b ++ us) argument_is
@@ -219,7 +219,7 @@ opened_head : (test : SyntaxKind → Bool) (N : Follow) → ((i : SyntaxKind) �
 opened_head test N h [] o = absurd o
 opened_head test N h (t ∷ ts) o = h t.kind o
 
--- what begins a node is next before it
+-- a node begins with a token that passes a test, so what precedes it may require that
 pub next_node : {N M F : Follow} {k : SyntaxKind} {c t : Forest} (test : SyntaxKind → Bool) → ((i : SyntaxKind) → test i ≡ true → N (Some i) ≡ true)
     → ((b : AnnotatedForest) (us : List Token) → Over c b → M (head_kind us) ≡ true → Opens test (tokens_in b ++ us)) → Next M F t → Next N F (node k c t)
 next_node {N} {M} {F} {k} {c} {t} test h opens behind = record { next = first }
@@ -228,7 +228,7 @@ next_node {N} {M} {F} {k} {c} {t} test h opens behind = record { next = first }
     first f us (over_node {b = b} {f = e} o v) z = ap (λ ts. N (head_kind ts)) (append_assoc (tokens_in b) (tokens_in e) us)
         ∙ opened_head test N h (tokens_in b ++ (tokens_in e ++ us)) (opens b (tokens_in e ++ us) o (behind.next e us v z))
 
--- where an operand is there is room for it
+-- if a forest is within the limit, so is the operand with which it begins
 pub counted_fits : (w : Bool) (p k : SyntaxKind) (c t : Forest) (d : ℕ) → counts_no_child p ≡ (if w then false else true) → is_expression k ≡ true
     → d + nest p (node k c t) ≤ depth_limit
     → (w ≡ true → suc d ≤ depth_limit) × ((if w then suc d else d) + depth_in k c ≤ depth_limit)
@@ -236,12 +236,12 @@ counted_fits true p k c t d f e m =
     let x : suc d + depth_in k c ≤ depth_limit = (room p k c t d m).2 (ap (λ w. if w then false else is_expression k) f ∙ e) in (λ y. omega (arith, x), x)
 counted_fits false p k c t d f e m = (λ y. absurd (true_is_not_false (sym y)), (room p k c t d m).0)
 
--- an operand is never expected
+-- no row expects an operand by its first item
 pub operand_expected : (n : ℕ) (counted : Bool) (r : Row) (m : ℕ) (ts : List Token) → IsExpected (Operand n counted · r) m ts false
 operand_expected n counted r m [] = refl
 operand_expected n counted r m (t ∷ ts) = refl
 
--- an operand
+-- an operand is read, and then the rest of its row
 pub operand_on : {p : SyntaxKind} {r : Row} {n : ℕ} {counted : Bool} {G : Before} {F : Follow} {k : SyntaxKind} {c t : Forest} → Good n k c
     → counts_no_child p ≡ (if counted then false else true) → Next (binds_at_most (below n)) F t → Rest p r Any F t
     → Rest p (Operand n counted · r) G F (node k c t)
@@ -252,7 +252,7 @@ operand_on {p} {r} {n} {counted} {G} {F} {k} {c} {t} g f behind rest =
         → Placed (Operand n counted · r) m x k b vs
     placed m x b vs o w z = (operand_expected n counted r m (tokens_in b ++ vs), tt, operand_at g b vs o z, unreported k x b (fits_expression n k g.fit))
 
--- an operand of a series up to a token
+-- an operand in a series up to a closing token is read, and then the rest
 pub series_on : {p : SyntaxKind} {r : Row} {n : ℕ} {closer : SyntaxKind} {G : Before} {F : Follow} {k : SyntaxKind} {c t : Forest} → Good n k c
     → counts_no_child p ≡ false → list_all (λ i. if is_expression i then (if same_kind closer i then false else true) else true) all_kinds ≡ true
     → ((b : Bool) → list_all (λ i. if is_start i then stands_so (Many n closer · r) b i false else true) all_kinds ≡ true)
@@ -280,7 +280,7 @@ series_on {p} {r} {n} {closer} {G} {F} {k} {c} {t} g f x y behind rest = node_on
       unreported k x b e,
     )
 
--- the first tree of a forest
+-- the first tree of a row is read, and then the rest
 pub first_on : {p : SyntaxKind} {q r : Row} {H : Before} {N F : Follow} {k : SyntaxKind} {c t : Forest} → after q k ≡ r → is_part q ≡ true
     → ((m : ℕ) (ts : List Token) (w : Bool) → IsExpected q m ts w) → ((g b : AnnotatedForest) → repeats k g b ≡ [])
     → ((b : AnnotatedForest) → Over c b → H (one_branch k b)) → Node N k c → Next N F t
@@ -307,7 +307,7 @@ no_or_row NODE_IDENT (token i t f) vs o = not_if (is_or t.kind) (implied is_fn_a
 no_or_row NODE_IDENT _ vs o = refl
 no_or_row _ b vs o = refl
 
--- an argument
+-- an argument is read
 pub argument_on : {p : SyntaxKind} {F : Follow} {k : SyntaxKind} {c : Forest} → Good 16 k c → Next (binds_at_most 15) F empty
     → Rest p done Any F empty → Rest p (Argument · done) (λ g. nat_le 15 (row_level g) ≡ true) F (node k c empty)
 argument_on {p} {F} {k} {c} g behind rest =
@@ -332,7 +332,7 @@ argument_on {p} {F} {k} {c} g behind rest =
           unreported k x b (fits_expression 16 k g.fit),
         )
 
--- a forest that begins with an expression begins as it does
+-- a node whose first tree is that of its first child begins as this child does
 pub begins_first : {n : ℕ} {j : SyntaxKind} {a t : Forest} (l : ℕ) (k : SyntaxKind)
     → ((b f e : AnnotatedForest) → first_tree (branch j b f) ≡ first_tree (branch k (branch j b f) e))
     → l ≤ n → Good n j a → Next (binds_at_most 16) (binds_at_most 16) t → (b f : AnnotatedForest) (us : List Token) → Over (node j a t) b
@@ -344,7 +344,7 @@ begins_first {n} {j} {a} {t} l k same m g behind b f us (over_node {b = x} {f = 
     (begun_lower l g.level (branch j x h) (tokens_in x ++ (tokens_in h ++ us)) (omega (arith, m, g.min_bp))
     (g.begins x h (tokens_in h ++ us) o (behind.next h us v z))))
 
--- one that begins with a token, as the token says
+-- a node that begins with a token begins as the token determines
 pub begins_leaf : {i k : SyntaxKind} {s : List ℕ} {c : Forest} (l : ℕ) → ((b f : AnnotatedForest) → first_tree (branch k b f) ≡ k)
     → is_known k ≡ true
     → ((text : List ℕ) (h : AnnotatedForest) (us : List Token) → text ≡ s → Over c h → binds_at_most 16 (head_kind us) ≡ true
@@ -355,7 +355,7 @@ begins_leaf l same known tells b f us (over_leaf {x = x} {f = h} e w o) z = (
   ap is_known (same b f) ∙ known,
 )
 
--- An atom: anything may follow it that makes no more of a name.
+-- An atom: anything may follow it that does not make a longer name of it.
 pub record GoodAtom (k : SyntaxKind) (c : Forest) : Type 0 where
   pub atom : is_atom k ≡ true
   pub node : Node (binds_at_most 16) k c
@@ -365,7 +365,7 @@ atom_level : (k : SyntaxKind) (b : AnnotatedForest) → is_atom k ≡ true → n
 atom_level NODE_PAREN b h = refl
 atom_level _ b h = cc
 
--- it is at the highest level
+-- an atom is an expression at the highest level
 pub good_atom : {k : SyntaxKind} {c : Forest} → GoodAtom k c → Good 16 k c
 good_atom {k} a = record {
   level = 16;

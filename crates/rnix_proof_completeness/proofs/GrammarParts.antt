@@ -1,4 +1,4 @@
--- What the parts of the grammar are to a reading: attributes, names, entries, paths, parameters and formals.
+-- How the parts of the grammar are read: attributes, names, entries, paths, parameters and formals.
 use Rattle.std.{specs.List.list_all, proofs.Common.{◌≡◌, ℕ, Bool, true, false, List, [], ◌∷◌, ◌++◌, Option, Some, None, refl, ap, sym, ◌∙◌, subst, arith}}
 use Rattle.std.proofs.Common.{◌≤◌, ◌+◌, ◌&&◌, if◌then◌else◌, append_assoc, nat_eq, nat_le}
 use Rattle.rnix_kinds.specs.declared.kinds.SyntaxKind.{SyntaxKind}
@@ -22,19 +22,19 @@ use Rattle.rnix_proof_completeness.proofs.GoodOperands.{Good, agree, Begun, is_k
 use Rattle.rnix_proof_completeness.proofs.NamesAndBraces.{name_kind, BeginsWith, parameter_begins, Covers, formal_new}
 use Rattle.rnix_proof_completeness.proofs.OperatorReadings.{ends, name_node}
 
--- an expression by its levels, its row, and how it begins
+-- an expression, from its level, what may follow it, its row, and how it begins
 pub good : {k : SyntaxKind} {c : Forest} (l h : ℕ) → agree l h ≡ true → fits l k ≡ true → Node (binds_at_most h) k c
     → ((b : AnnotatedForest) → Over c b → nat_le l (level_of k b) ≡ true)
     → ((b f : AnnotatedForest) (us : List Token) → Over c b → binds_at_most 16 (head_kind us) ≡ true → Begun l (branch k b f) (tokens_in b ++ us)) → Good l k c
 good l h a f w t b = record { level = l; max_bp = h; min_bp = omega arith; agrees = a; fit = f; node = w; tight = t; begins = b }
 
--- how tightly a prefix operator binds
+-- how tightly a prefix operation binds
 pub unary_level : {i : SyntaxKind} {s : List ℕ} {c : Forest} (l : ℕ)
     → ((x : Token) (f : AnnotatedForest) → nat_le l (level_of NODE_UNARY_OP (token i x f)) ≡ true)
     → (b : AnnotatedForest) → Over (leaf i s c) b → nat_le l (level_of NODE_UNARY_OP b) ≡ true
 unary_level l h b (over_leaf {x = x} {f = f} e i o) = h x f
 
--- a node that begins with a token, or with a node
+-- the children of a node begin with a token, or with a node
 pub part_leaf : {N : Follow} {test : SyntaxKind → Bool} {k i : SyntaxKind} {s : List ℕ} {c : Forest} → test (kind_of_token i s) ≡ true → Node N k (leaf i s c)
     → Part N test k (leaf i s c)
 part_leaf {test = test} {i = i} {s = s} {c = c} h w = record { node = w; opens = opens }
@@ -50,7 +50,7 @@ part_node {test = test} {i = i} {a = a} {c = c} p w = record { node = w; opens =
     opens b us (over_node {b = x} {f = h} o v) = subst (λ ts. Opens test ts) (sym (append_assoc (tokens_in x) (tokens_in h) us))
         (p.opens x (tokens_in h ++ us) o)
 
--- attributes
+-- an attribute is read, before anything that does not make a longer name of it
 pub record GoodAttr (k : SyntaxKind) (c : Forest) : Type 0 where
   pub attr : is_attr k ≡ true
   pub part : Part anything begins_attr k c
@@ -73,12 +73,12 @@ pub names_after : (k : SyntaxKind) → is_attr k ≡ true
 names_after NODE_IDENT h = refl
 names_after _ h = cc
 
--- inherited names, where a source may precede them and where none may
+-- inherited names are read, after a source or without one
 pub record GoodNames (f : Forest) : Type 0 where
   pub source : Rest NODE_INHERIT (Optional NODE_INHERIT_FROM · Names · Wanted TOKEN_SEMICOLON · done) Any anything f
   pub names : Rest NODE_INHERIT (Names · Wanted TOKEN_SEMICOLON · done) Any anything f
 
--- entries are at what is left of a row, which they do not leave
+-- entries are read at this rest of a row, which is the same after each of them
 pub record Gathers (closer : SyntaxKind) (r : Row) : Type 0 where
   pub inherit_stays : after (Entries closer · r) NODE_INHERIT ≡ Entries closer · r
   pub inherit_own : (b : Bool) (x : AnnotatedForest)
@@ -92,7 +92,7 @@ in_braces = record { inherit_stays = refl; inherit_own = λ b x. refl; bind_stay
 pub in_let : {r : Row} → Gathers TOKEN_IN r
 in_let = record { inherit_stays = refl; inherit_own = λ b x. refl; bind_stays = refl; bind_own = λ b x. refl }
 
--- the items before which `let` begins no old one
+-- the next item is not `{`, so `let` begins no old `let`
 abbrev pub no_brace : Option SyntaxKind → Bool
 no_brace (Some TOKEN_L_BRACE) = false
 no_brace o = true
@@ -102,7 +102,7 @@ let_kind (Some TOKEN_L_BRACE) h = absurd (true_is_not_false (sym h))
 let_kind None h = refl
 let_kind (Some _) h = refl
 
--- a name is followed by no `:` and no `@`
+-- a name that is followed by neither `:` nor `@` is a name or `__curPos`
 pub plain_name : (text : List ℕ) (o : Option SyntaxKind) → binds_at_most 16 o ≡ true
     → first_kind_of_name text o ≡ (if is_cur_pos text then NODE_CUR_POS else NODE_IDENT)
 plain_name text None h = refl
@@ -110,7 +110,7 @@ plain_name text (Some TOKEN_COLON) h = absurd (true_is_not_false (sym h))
 plain_name text (Some TOKEN_AT) h = absurd (true_is_not_false (sym h))
 plain_name text (Some _) h = refl
 
--- one token that is a name begins so
+-- a single token that is a name begins its node
 pub name_begins : (i k : SyntaxKind) (s : List ℕ) → kind_of_token i s ≡ TOKEN_IDENT → (if is_cur_pos s then NODE_CUR_POS else NODE_IDENT) ≡ k
     → (text : List ℕ) (h : AnnotatedForest) (us : List Token)
     → text ≡ s → Over empty h → binds_at_most 16 (head_kind us) ≡ true
@@ -128,13 +128,13 @@ pub literal_after : (i : SyntaxKind) → is_plain_literal i ≡ true → after (
 literal_after TOKEN_FLOAT h = refl
 literal_after _ h = cc
 
--- the rest of a path is read where its pieces touch
+-- the rest of a path is read, if its pieces touch
 abbrev pub PathReads : Row → (ℕ → AnnotatedForest → List Token → Bool) → Forest → Type 0
 PathReads q joined f = (p : SyntaxKind) → is_error p ≡ false → (d n : ℕ) (x b : AnnotatedForest) (us : List Token) → Over f b → ArePaths b us
     → d + nest p f ≤ depth_limit
     → joined n b us ≡ true → binds_at_most 16 (head_kind us) ≡ true → IsRead p d n q x b us
 
--- a path begins with its token
+-- a path is read from its first token on
 pub path_node : {s : List ℕ} {f : Forest} (k i : SyntaxKind) → is_path k ≡ true → is_error k ≡ false → kind_of_token i s ≡ i
     → after (row k) i ≡ EndOr NODE_INTERPOL · PathPieces · done
     → ((n : ℕ) (ts : List Token) → IsExpected (row k) n ts true) → ((x : AnnotatedForest) (o : Option SyntaxKind) → IsFollowed (row k) x o)
@@ -163,11 +163,11 @@ no_interpol n [] h = refl
 no_interpol n (t ∷ ts) h = expected_so (EndOr NODE_INTERPOL · PathPieces · done) n t ts false
     (implied (λ i. binds_at_most 16 (Some i)) (λ i. stands_so (EndOr NODE_INTERPOL · PathPieces · done) (nat_eq t.start n) i false) refl t.kind h)
 
--- the name of a parameter, of a pattern or of an entry
+-- the name of a parameter, of a pattern or of an entry is read
 pub name_part : {s : List ℕ} → is_or s ≡ false → Part anything (same_kind TOKEN_IDENT) NODE_IDENT (leaf TOKEN_IDENT s empty)
 name_part {s = s} n = part_leaf (ap (λ i. same_kind TOKEN_IDENT i) (name_kind s n)) name_node
 
--- parameters of functions
+-- the parameter of a function is read before `:`
 pub record GoodParameter (k : SyntaxKind) (c : Forest) : Type 0 where
   pub known : is_known k ≡ true
   pub goes : after (row NODE_LAMBDA) k ≡ Wanted TOKEN_COLON · Operand 0 true · done
@@ -185,7 +185,7 @@ lambda_begins {k} w known b f us (over_node {b = x} {f = h} o (over_leaf {x = y}
     by [] w = w
     by (t ∷ ts) w = (w, known)
 
--- what follows the braces of a pattern
+-- the rest of a pattern's row after its braces
 abbrev pub tail_of : Bool → Row
 tail_of true = BoundAlready · done
 tail_of false = EndOr NODE_PAT_BIND · done
@@ -204,7 +204,7 @@ pub record GoodFormals (bound : Bool) (names : List (List ℕ)) (f : Forest) : T
   pub first : Rest NODE_PATTERN (Formals · tail_of bound) (Covers names) is_no_at f
   pub inside : Rest NODE_PATTERN (FormalsAfterComma · tail_of bound) (Covers names) is_no_at f
 
--- an entry of a pattern, which begins with a name
+-- an entry of a pattern is read from its name on
 pub entry_node : {s : List ℕ} {e : Forest} → Rest NODE_PAT_ENTRY (EndOr TOKEN_QUESTION · Operand 0 true · done) Any (binds_at_most 0) e
     → Node (binds_at_most 0) NODE_PAT_ENTRY (g.name s e)
 entry_node {s} {e} r = record { reads = whole }

@@ -24,7 +24,7 @@ use Rattle.rnix_proof_completeness.proofs.OperatorReadings.{ends, keeps_token_ki
 use Rattle.rnix_proof_completeness.proofs.GrammarParts.{Gathers, GoodAttr, GoodAttrpath, GoodFormals, GoodItems, GoodNames, GoodParameter, PathReads, attr_new, entry_node, entry_on, good, in_braces, in_let, lambda_begins, let_kind, literal_after, literal_begins, name_begins, name_part, names_after, no_brace, no_interpol, no_piece, old_let_kind, part_leaf, part_node, path_node, pattern_end_rest, piece_expected, unary_level}
 
 mutual
-  -- an expression is read at its level
+  -- an expression of the grammar is read at its level
   strict_good : {n : ℕ} {k : SyntaxKind} {c : Forest} → g.Strict n k c → Good n k c
   strict_good (g.looser l h) = good_looser l (strict_good h)
   strict_good (g.atom h) = good_atom (atom_reads h)
@@ -294,7 +294,7 @@ mutual
   entry_part (g.default_entry n h) = part_node (name_part n) (entry_node
       (item refl (λ b. refl) (λ x. tt) (operand_on (strict_good h) refl (next_end (λ o z. z)) finished)))
 
--- an expression that nests no deeper than the limit, and whose pieces of paths touch, is a reading of its items, without errors
+-- an expression that nests within the limit, and whose pieces of paths touch, is a reading of its items without errors
 pub expression_reads : {t : Forest} → g.IsExpression t → (f : AnnotatedForest) → Over t f → ArePaths f [] → nest NODE_ROOT t ≤ depth_limit → ReadsRoot f []
 expression_reads (g.expression {k = k} {c = c} h) f (over_node {b = b} o over_nothing) a m =
     let w = strict_good h in

@@ -1,4 +1,4 @@
--- Before the rest of a pattern `{` begins one, before that of a set it does not; how functions begin; no entry of a pattern repeats a name.
+-- `{` begins a pattern before the rest of a pattern, and not before that of a set. How functions begin. No entry of a pattern repeats a name.
 use Rattle.std.{specs.Str.bytes_eq, proofs.Common.{◌≡◌, ℕ, Bool, true, false, List, [], ◌∷◌, ◌++◌, Option, Some, None, refl, ap, sym, ◌∙◌, append_assoc, if◌then◌else◌}}
 use Rattle.rnix_kinds.specs.declared.kinds.SyntaxKind.{SyntaxKind, TheVariants.{TOKEN_AT, TOKEN_COLON, TOKEN_COMMA, TOKEN_ELLIPSIS, TOKEN_IDENT, TOKEN_INHERIT}}
 use Rattle.rnix_kinds.specs.declared.kinds.SyntaxKind.TheVariants.{TOKEN_INTERPOL_START, TOKEN_OR, TOKEN_QUESTION, TOKEN_R_BRACE, TOKEN_STRING_START, NODE_ATTR_SET, NODE_IDENT, NODE_PAT_ENTRY, NODE_PATTERN}
@@ -10,7 +10,7 @@ use Rattle.rnix_grammar.specs.Grammar.{Parameter, parameter, pattern, bound_patt
 use Rattle.rnix_proof_lemmas.proofs.{Basics.{true_is_not_false, not_if}, EntryNames.has-⊕, PlainTables.binds_at_most}
 use Rattle.rnix_proof_completeness.proofs.OverTokens.{Over, over_nothing, over_leaf, over_node}
 
--- a name that is no `or` has the token of one
+-- a name that is not `or` is a TOKEN_IDENT
 pub name_kind : (s : List ℕ) → is_or s ≡ false → kind_of_token TOKEN_IDENT s ≡ TOKEN_IDENT
 name_kind s h = ap (λ w. if w then TOKEN_OR else TOKEN_IDENT) h
 
@@ -24,7 +24,7 @@ one third i e = ap (λ z. is_pattern (Some z) third) e
 two : {a b : SyntaxKind} (i j : SyntaxKind) → a ≡ i → b ≡ j → is_pattern (Some a) (Some b) ≡ is_pattern (Some i) (Some j)
 two {b = b} i j e h = ap (λ z. is_pattern (Some z) (Some b)) e ∙ ap (λ z. is_pattern (Some i) (Some z)) h
 
--- so it does before formals
+-- `{` begins a pattern before formals
 pub formals_open : {names : List (List ℕ)} {f : Forest} → Formals false names f → (h : AnnotatedForest) (vs : List Token) → Over f h
     → head_kind vs ≡ Some TOKEN_COLON
     → opens_pattern (tokens_in h ++ vs) ≡ true
@@ -40,7 +40,7 @@ formals_open (entry_comma m (entry {x = x} n) w) h vs (over_node (over_node (ove
 formals_open (entry_comma m (default_entry {x = x} n d) w) h vs (over_node (over_node (over_leaf e i over_nothing) (over_leaf u j o)) v) c =
     two TOKEN_IDENT TOKEN_QUESTION (e ∙ name_kind x n) u
 
--- with a name before these it begins none
+-- `{` and a name do not begin a pattern before this item
 abbrev is_no_tail : Option SyntaxKind → Bool
 is_no_tail o = if is_pattern (Some TOKEN_IDENT) o then false else true
 
@@ -60,14 +60,14 @@ path_opens (last_attr a) b vs (over_node {b = c} o over_nothing) h = ap opens_pa
 path_opens (attr_dot a r) b vs (over_node {b = c} o (over_leaf {x = x} {f = f} e i v)) h =
     ap opens_pattern (append_assoc (tokens_in c) (x ∷ tokens_in f) vs) ∙ attr_opens a c (x ∷ (tokens_in f ++ vs)) o (ap (λ z. is_no_tail (Some z)) e)
 
--- before what makes more of a name it begins none
+-- `{` and `}` do not begin a pattern before an item that makes no longer name or pattern
 no_binder : (next : Option SyntaxKind) → binds_at_most 16 next ≡ true → is_pattern (Some TOKEN_R_BRACE) next ≡ false
 no_binder None h = refl
 no_binder (Some TOKEN_COLON) h = absurd (true_is_not_false (sym h))
 no_binder (Some TOKEN_AT) h = absurd (true_is_not_false (sym h))
 no_binder (Some _) h = refl
 
--- so it begins none before the entries of a set
+-- `{` does not begin a pattern before the entries of a set
 pub entries_open : {f : Forest} {s : List ℕ} → Entries f (leaf TOKEN_R_BRACE s empty) → (h : AnnotatedForest) (vs : List Token) → Over f h
     → binds_at_most 16 (head_kind vs) ≡ true → opens_pattern (tokens_in h ++ vs) ≡ false
 entries_open entries_end h vs (over_leaf e i over_nothing) l = one _ TOKEN_R_BRACE e ∙ no_binder (head_kind vs) l
@@ -77,7 +77,7 @@ entries_open (binding (bind a d) r) h vs (over_node {f = k} (over_node {b = c} o
     ap opens_pattern (append_assoc (tokens_in c ++ (x ∷ tokens_in f)) (tokens_in k) vs ∙ append_assoc (tokens_in c) (x ∷ tokens_in f) (tokens_in k ++ vs))
     ∙ path_opens a c (x ∷ (tokens_in f ++ (tokens_in k ++ vs))) o (ap (λ z. is_no_tail (Some z)) e)
 
--- an expression begins with such a parameter before these items
+-- these items begin an expression with the parameter
 abbrev pub BeginsWith : SyntaxKind → List Token → Type 0
 BeginsWith k [] = ⊥
 BeginsWith k (t ∷ ts) = first_kind 0 t.kind t.text (head_kind ts) (second_kind ts) ≡ k
@@ -93,7 +93,7 @@ parameter_begins (bound_pattern {t = s} n w) b vs (over_node {f = g} (over_node 
     (over_leaf {x = y} u j over_nothing)) v) h =
     ap (λ z. first_kind 0 z x.text (Some y.kind) (head_kind (tokens_in g ++ vs))) (e ∙ name_kind s n) ∙ ap (λ z. first_kind_of_name x.text (Some z)) u
 
--- names that are not among these are of no entry so far
+-- every name outside the list is new to the entries so far
 abbrev pub Covers : List (List ℕ) → AnnotatedForest → Type 0
 Covers names g = (n : List ℕ) → is_among n names ≡ false → has_entry n g ≡ false
 
@@ -116,7 +116,7 @@ named_new names g f x y i h m = (ap (λ w. if w then duplicated_args (extent_of 
         ∙ ap (λ v. if v then true else (if bytes_eq n y.text then true else false)) (h n w.1) ∙ ap (λ v. if v then true else false)
         (ap (λ t. bytes_eq n t) i ∙ w.0)
 
--- an entry of a pattern repeats no name
+-- an entry of a pattern whose name is not in the list repeats no name
 pub formal_new : (names : List (List ℕ)) (g b : AnnotatedForest) {x : List ℕ} {c : Forest} → Formal x c → Over c b → Covers names g → is_among x names ≡ false
     → (repeats NODE_PAT_ENTRY g b ≡ []) × Covers (x ∷ names) (g ⊕ one_branch NODE_PAT_ENTRY b)
 formal_new names g b (entry {x = x} n) (over_node {f = f} (over_leaf {x = y} e i over_nothing) v) h m = named_new names g f x y i h m

@@ -1,4 +1,4 @@
--- Rows that begin with an operand: operators, calls and selections.
+-- Rows that begin with an operand: operations, calls and selections.
 use Rattle.std.{specs.List.list_all, proofs.Common.{◌≡◌, ℕ, Bool, true, false, List, [], ◌∷◌, ◌++◌, Some, None, refl, ap, sym, ◌∙◌, subst, arith, ◌≤◌, ◌&&◌}}
 use Rattle.{std.proofs.Common.{◌||◌, if◌then◌else◌, nat_eq, nat_le}, rnix_kinds.specs.declared.kinds.SyntaxKind.{SyntaxKind, TheVariants.TOKEN_CUR_POS}}
 use Rattle.rnix_kinds.specs.declared.kinds.SyntaxKind.TheVariants.{TOKEN_DOT, TOKEN_IDENT, TOKEN_OR, TOKEN_QUESTION, NODE_APPLY, NODE_BIN_OP, NODE_HAS_ATTR}
@@ -16,7 +16,7 @@ use Rattle.rnix_proof_completeness.proofs.PartReads.{node_of, Next, next_leaf, n
 use Rattle.rnix_proof_completeness.proofs.GoodOperands.{Good, GoodAtom, good_atom, good_before, good_follows, agree, takes_left, operand_level}
 use Rattle.rnix_proof_completeness.proofs.GoodOperands.{binds_at_most_more, wide, next_node, argument_opens, operand_on, argument_on, first_on, begins_first}
 
--- a row may end where the next item is not expected
+-- a row ends where it may, if no item that may follow is expected
 pub ends : {p : SyntaxKind} {q : Row} {G : Before} {F : Follow} → may_end q ≡ true → ((n : ℕ) → IsExpected q n [] false)
     → ((b : Bool) → list_all (λ i. if F (Some i) then stands_so q b i false else true) all_kinds ≡ true) → Rest p q G F empty
 ends {q = q} {F = F} e none some = finish e over
@@ -25,13 +25,13 @@ ends {q = q} {F = F} e none some = finish e over
     over n [] z = none n
     over n (t ∷ ts) z = expected_so q n t ts false (implied (λ i. F (Some i)) (λ i. stands_so q (nat_eq t.start n) i false) (some (nat_eq t.start n)) t.kind z)
 
--- the kinds of leaves whose tokens may have other kinds
+-- the kinds of leaves that may have another kind than their token
 abbrev is_name : SyntaxKind → Bool
 is_name TOKEN_IDENT = true
 is_name TOKEN_CUR_POS = true
 is_name k = false
 
--- the token of another leaf has its kind
+-- any other leaf has its token's kind
 pub keeps_token_kind : (test : SyntaxKind → Bool) → list_all (λ i. if test i then (if is_name i then false else true) else true) all_kinds ≡ true
     → (k : SyntaxKind) (s : List ℕ) → test k ≡ true → kind_of_token k s ≡ k
 keeps_token_kind test h k s e = by k (not_if (is_name k) (implied test (λ i. if is_name i then false else true) h k e))
@@ -41,7 +41,7 @@ keeps_token_kind test h k s e = by k (not_if (is_name k) (implied test (λ i. if
     by TOKEN_CUR_POS h = absurd (true_is_not_false h)
     by _ h = refl
 
--- `a.b`, and `a.b or c`
+-- `a.b` and `a.b or c` are read
 pub select_good : {k : SyntaxKind} {a t : Forest} {s : List ℕ} → GoodAtom k a
     → Rest NODE_SELECT (Attrpath · EndOr TOKEN_OR · Operand 16 false · done) Any (binds_at_most 15) t
     → Good 16 NODE_SELECT (node k a (leaf TOKEN_DOT s t))
@@ -59,7 +59,7 @@ select_good {k} a r = record {
   begins = begins_first 16 NODE_SELECT (λ b f e. refl) (omega arith) (good_atom a) (next_leaf refl);
 }
 
--- `a ? b`
+-- `a ? b` is read
 pub has_attr_good : {k : SyntaxKind} {a t : Forest} {s : List ℕ} → Good 13 k a → Rest NODE_HAS_ATTR (Attrpath · done) Any (binds_at_most 13) t
     → Good 13 NODE_HAS_ATTR (node k a (leaf TOKEN_QUESTION s t))
 has_attr_good {k} g r = record {
@@ -76,7 +76,7 @@ has_attr_good {k} g r = record {
   begins = begins_first 13 NODE_HAS_ATTR (λ b f e. refl) (omega arith) g (next_leaf refl);
 }
 
--- an operator and its operands
+-- an operation of a binary operator is read
 pub binary_good : {o j k : SyntaxKind} {a c : Forest} {s : List ℕ} → is_infix o ≡ true → Good (left_of o) j a → Good (right_of o) k c
     → Good (binding_power o) NODE_BIN_OP (node j a (leaf o s (node k c empty)))
 binary_good {o} {j} {k} {a} {c} {s} e g h = record {
@@ -112,7 +112,7 @@ binary_good {o} {j} {k} {a} {c} {s} e g h = record {
     tight : (b : AnnotatedForest) → Over (node j a (leaf o s (node k c empty))) b → nat_le (binding_power o) (level_of NODE_BIN_OP b) ≡ true
     tight b (over_node u (over_leaf w i v)) = at_most_true (binding_power o) (binding_power o) (omega arith)
 
--- `a b`
+-- `a b` is read
 pub apply_good : {j k : SyntaxKind} {a b : Forest} → Good 15 j a → Good 16 k b → Good 15 NODE_APPLY (node j a (node k b empty))
 apply_good {j} {k} {a} {b} g h = record {
   level = 15;
@@ -136,11 +136,11 @@ apply_good {j} {k} {a} {b} g h = record {
 or_kind : (s : List ℕ) → is_or s ≡ true → kind_of_token TOKEN_IDENT s ≡ TOKEN_OR
 or_kind s h = ap (λ w. if w then TOKEN_OR else TOKEN_IDENT) h
 
--- a name is read, which is a leaf
+-- the node of a name is read
 pub name_node : {F : Follow} {s : List ℕ} → Node F NODE_IDENT (leaf TOKEN_IDENT s empty)
 name_node {s = s} = node_of {G = Any} refl tt (item (choice (λ k. TOKEN_IDENT ≡ leaf_kind_as NODE_IDENT k) (is_or s) refl refl) (λ b. refl) (λ g. tt) finished)
 
--- an atom, and the name `or`
+-- a call of an atom with the name `or` is read
 pub apply_or_good : {k : SyntaxKind} {a : Forest} {t : List ℕ} → GoodAtom k a → is_or t ≡ true → Good 16 NODE_APPLY (node k a (name t empty))
 apply_or_good {k} {a} {t} g h = record {
   level = 16;

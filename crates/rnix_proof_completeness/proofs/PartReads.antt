@@ -1,4 +1,4 @@
--- The rest of a row, part by part: what is read there, and what comes next.
+-- The rest of a row, part by part: what is read there, and what may come next.
 use Rattle.std.{specs.List.list_all, proofs.Common.{◌≡◌, ℕ, suc, Bool, true, false, List, [], ◌∷◌, ◌++◌, Option, Some, None, refl, ap, sym, ◌∙◌, subst, arith}}
 use Rattle.{std.proofs.Common.{◌≤◌, ◌+◌, max, if◌then◌else◌, nat_eq}, rnix_kinds.specs.declared.kinds.SyntaxKind.{SyntaxKind, TheVariants.NODE_PAT_ENTRY}}
 use Rattle.{rnix_kinds.proofs.AllKinds.{all_kinds, implied}, rnix_green.specs.Forest.{Forest, empty, leaf, node}, rnix_grammar.specs.AnnotatedForest.Token}
@@ -11,7 +11,7 @@ use Rattle.rnix_proof_completeness.proofs.OverTokens.{opened_so}
 use Rattle.rnix_grammar.specs.declared.rules.Part.TheVariants as p
 use Rattle.rnix_grammar.specs.Reads as read
 
--- how deep the children of a node nest; the name that an entry of a pattern begins with does not count
+-- how deep the children of a node nest; the name with which an entry of a pattern begins does not count
 abbrev pub depth_in : SyntaxKind → Forest → ℕ
 depth_in NODE_PAT_ENTRY (node k c e) = nest NODE_PAT_ENTRY e
 depth_in k c = nest k c
@@ -26,7 +26,7 @@ spread : (w : Bool) (d m n o l : ℕ) → o ≡ max (if w then suc m else m) n �
 spread true d m n o l e h = (omega (arith, e, h), omega (arith, e, h), λ x. omega (arith, e, h))
 spread false d m n o l e h = (omega (arith, e, h), omega (arith, e, h), λ x. absurd (true_is_not_false (sym x)))
 
--- where there is room for a forest there is for the children of its first node, which may count, and for the rest
+-- if a forest is within the limit, so are the children of its first node, which may count, and the rest
 pub room : (p k : SyntaxKind) (c t : Forest) (d : ℕ) → d + nest p (node k c t) ≤ depth_limit
     → (d + depth_in k c ≤ depth_limit) × (d + nest p t ≤ depth_limit) × (nests p k ≡ true → suc d + depth_in k c ≤ depth_limit)
 room p k c t d h = spread (nests p k) d (depth_in k c) (nest p t) (nest p (node k c t)) depth_limit (nest_is p k c t) h
@@ -38,16 +38,16 @@ Follow = Option SyntaxKind → Bool
 abbrev pub Before : Type 1
 Before = AnnotatedForest → Type 0
 
--- The rest of a row below a node of a kind is read without errors, where the trees before it are as they have to be, and so is the item after it.
+-- The rest of a row below a node of the kind is read without errors, if the trees before it and the item after it are as required.
 pub record Rest (p : SyntaxKind) (q : Row) (G : Before) (F : Follow) (t : Forest) : Type 0 where
   pub reads : (d n : ℕ) (g f : AnnotatedForest) (us : List Token) → Over t f → ArePaths f us → d + nest p t ≤ depth_limit → G g → F (head_kind us) ≡ true
       → IsRead p d n q g f us
 
--- any trees before it
+-- any trees may come before
 abbrev pub Any : Before
 Any g = Unit {0}
 
--- the row of a node of a kind is read so
+-- the row of a node of the kind is read without errors, before an item that passes the test
 pub record Node (F : Follow) (k : SyntaxKind) (c : Forest) : Type 0 where
   pub reads : (d n : ℕ) (b : AnnotatedForest) (us : List Token) → Over c b → (if is_path k then is_joined b us else true) ≡ true → ArePaths b us
       → d + depth_in k c ≤ depth_limit → F (head_kind us) ≡ true → IsRead k d n (row k) blank b us
@@ -62,7 +62,7 @@ node_of {F = F} {k = k} {c = c} e z r = record { reads = whole }
 pub plain_node : {F : Follow} {k : SyntaxKind} {c : Forest} → depth_in k c ≡ nest k c → Rest k (row k) Any F c → Node F k c
 plain_node e r = node_of {G = Any} e tt r
 
--- what comes next at the rest of a row passes a test, where what is after it passes another
+-- the first item of the rest passes a test, if the item after the rest passes another
 pub record Next (N F : Follow) (t : Forest) : Type 0 where
   pub next : (f : AnnotatedForest) (us : List Token) → Over t f → F (head_kind us) ≡ true → N (head_kind (tokens_in f ++ us)) ≡ true
 
@@ -81,20 +81,20 @@ next_end {N} {F} h = record { next = last }
     last : (f : AnnotatedForest) (us : List Token) → Over empty f → F (head_kind us) ≡ true → N (head_kind (tokens_in f ++ us)) ≡ true
     last f us over_nothing z = h (head_kind us) z
 
--- one test of the next item follows from another, by a computation over all kinds
+-- one test of the next item implies another, by computation over all kinds
 pub follows_by : (F N : Follow) → (if F None then N None else true) ≡ true → list_all (λ i. if F (Some i) then N (Some i) else true) all_kinds ≡ true
     → (o : Option SyntaxKind) → F o ≡ true → N o ≡ true
 follows_by F N h g None e = sym (ap (λ w. if w then N None else true) e) ∙ h
 follows_by F N h g (Some i) e = implied (λ j. F (Some j)) (λ j. N (Some j)) g i e
 
--- nothing is asked of the next item
+-- the next item may be anything
 abbrev pub anything : Follow
 anything o = true
 
 pub next_any : {F : Follow} {t : Forest} → Next anything F t
 next_any = record { next = λ f us o z. refl }
 
--- a row ends
+-- a row ends where it may
 pub finish : {p : SyntaxKind} {q : Row} {G : Before} {F : Follow} → may_end q ≡ true
     → ((n : ℕ) (us : List Token) → F (head_kind us) ≡ true → IsExpected q n us false) → Rest p q G F empty
 finish {p} {q} {G} {F} e h = record { reads = last }
@@ -103,7 +103,7 @@ finish {p} {q} {G} {F} e h = record { reads = last }
         → IsRead p d n q g f us
     last d n g f us over_nothing a m c z = (q, read.end, (e, h n us z))
 
--- where nothing is left of it
+-- a complete row ends
 pub finished : {p : SyntaxKind} {G : Before} {F : Follow} → Rest p done G F empty
 finished {F = F} = finish refl over
   where
@@ -111,7 +111,7 @@ finished {F = F} = finish refl over
     over n [] z = refl
     over n (t ∷ ts) z = refl
 
--- a token, which may be required after the trees before it
+-- a token is read, and then the rest; the row may require something of the trees before the token
 pub leaf_on : {p : SyntaxKind} {q : Row} {G H : Before} {F : Follow} {k : SyntaxKind} {s : List ℕ} {t : Forest}
     → k ≡ leaf_kind_as p (kind_of_token k s) → ((b : Bool) → stands_so q b (kind_of_token k s) true ≡ true)
     → ((g : AnnotatedForest) → G g → IsFollowed q g (Some k))
@@ -129,12 +129,12 @@ pub item : {p : SyntaxKind} {q : Row} {G : Before} {F : Follow} {k : SyntaxKind}
     → Rest p (after q k) Any F t → Rest p q G F (leaf k s t)
 item kind_kept own followed r = leaf_on kind_kept own (λ g c. followed g) (λ g x c. tt) r
 
--- what is asked of a node where it stands, before some items
+-- what a row requires of a node at its position, before some items
 abbrev pub Placed : Row → ℕ → AnnotatedForest → SyntaxKind → AnnotatedForest → List Token → Type 0
 Placed q n g k b vs = IsExpected q n (tokens_in b ++ vs) (is_first_expected q k b) × IsFollowed q g (head_kind (tokens_in b ++ vs))
     × IsOperandOf (level_at q (one_branch k b)) (one_branch k b) vs × (repeats k g b ≡ [])
 
--- a node
+-- a node is read, and then the rest
 pub node_on : {p : SyntaxKind} {q s : Row} {G H : Before} {N F : Follow} {k : SyntaxKind} {c t : Forest} → after q k ≡ s
     → ((d : ℕ) → d + nest p (node k c t) ≤ depth_limit → IsRoom q d × (deeper q d + depth_in k c ≤ depth_limit))
     → ((n : ℕ) (g b : AnnotatedForest) (vs : List Token) → Over c b → G g → N (head_kind vs) ≡ true → Placed q n g k b vs)
@@ -150,7 +150,7 @@ node_on {p} {q} {s} {G} {H} {N} {F} {k} {c} {t} e fits placed before inside behi
         node_read e x.0 (inside.reads (deeper q d) n b (tokens_in h ++ us) o a.0 a.1 x.1 y) i.0 i.1 i.2 i.3
         (r.reads d (end_from n (tokens_in b)) (g ⊕ one_branch k b) h us v a.2 (room p k c t d m).1 (before g b o w) z)
 
--- the parts of a row at which no operand stands, and which follow no tree
+-- the parts of a row that are no operands, and do not depend on the tree before them
 abbrev pub is_part : Row → Bool
 is_part (p.Suffix kind · r) = false
 is_part (p.Binary · r) = false
@@ -159,7 +159,7 @@ is_part (p.Operand n counted · r) = false
 is_part (p.Many n closer · r) = false
 is_part r = true
 
--- so at them
+-- what follows for such parts
 pub part_so : (q : Row) → is_part q ≡ true → (counts q ≡ false) × ((x : AnnotatedForest) → level_at q x ≡ None) ×
     ((g : AnnotatedForest) (i : Option SyntaxKind) → IsFollowed q g i)
 part_so (p.Suffix kind · r) h = absurd (true_is_not_false (sym h))
@@ -169,16 +169,16 @@ part_so (p.Operand n counted · r) h = absurd (true_is_not_false (sym h))
 part_so (p.Many n closer · r) h = absurd (true_is_not_false (sym h))
 part_so q h = (refl, λ x. refl, λ g i. tt)
 
--- where nothing counts there is room
+-- a position that does not count is within the limit
 pub uncounted : (q : Row) (d m : ℕ) → counts q ≡ false → d + m ≤ depth_limit → IsRoom q d × (deeper q d + m ≤ depth_limit)
 uncounted q d m e h = (λ x. absurd (true_is_not_false (sym x ∙ e)), subst (λ w. (if w then suc d else d) + m ≤ depth_limit) (sym e) h)
 
--- a node that begins with a token whose kind passes a test
+-- a node of the kind is read, and begins with a token whose kind passes a test
 pub record Part (N : Follow) (test : SyntaxKind → Bool) (k : SyntaxKind) (c : Forest) : Type 0 where
   pub node : Node N k c
   pub opens : (b : AnnotatedForest) (us : List Token) → Over c b → Opens test (tokens_in b ++ us)
 
--- stands where such a token is expected, or is not
+-- such a node is read where the row expects such a token, or does not
 pub part_on : {p : SyntaxKind} {q s : Row} {G : Before} {N F : Follow} {test : SyntaxKind → Bool} {k : SyntaxKind} {c t : Forest} → after q k ≡ s
     → is_part q ≡ true → ((b : Bool) (x : AnnotatedForest) → list_all
     (λ i. if test i then stands_so q b i (is_first_expected q k x) else true) all_kinds ≡ true)

@@ -8,13 +8,13 @@ use Rattle.{rnix_proof_lemmas.proofs.{EachIndex.each_index, ActionTable.is_waiti
 use Rattle.rnix_grammar.specs.declared.position.Position.TheVariants as p
 use Rattle.rnix_grammar.specs.declared.action.Action.TheVariants as a
 
--- complete nodes of these kinds may report an error
+-- a node of the kind may report an error when it is complete
 abbrev pub is_reported : SyntaxKind → Bool
 is_reported NODE_PAT_ENTRY = true
 is_reported NODE_ERROR = true
 is_reported kind = false
 
--- an action at a position of a node of the kind leads to positions of its row, opens other nodes at positions of theirs, or completes it as its kind asks
+-- an action at a position of a node of the kind leads to positions of its row, opens other nodes at positions of theirs, or completes it as its kind requires
 abbrev pub leads : SyntaxKind → Action → Bool
 leads k a.Close = if is_reported k then false else true
 leads k a.ClosePattern = if is_reported k then false else true
@@ -34,7 +34,7 @@ leads k (a.OpenEmpty j z y) = is_sound (Node j) && (is_in_row_of (p.InRow z) j &
 leads k (a.Read level counted y) = nat_le level 16 && is_in_row_of (p.InRow y) k
 leads k action = false
 
--- so do the actions at each index, whatever the next item is
+-- each action at an index does so, whatever the next item is
 abbrev leads_from : Bool → ℕ → Bool
 leads_from touch i = leads (kind_at i) (action_at_slot i None touch) && list_all (λ j. leads (kind_at i) (action_at_slot i (Some j) touch)) all_kinds
 
@@ -48,7 +48,7 @@ leads_each false = assumption
 leads_at : (touch : Bool) (i : ℕ) → LeadsAt touch i
 leads_at touch = each_index (LeadsAt touch) (leads_each touch) (λ i e d. ap (λ ss. if is_waiting (remaining_in ss) then leads_from touch i else true) d)
 
--- and those at each position
+-- each action at a position does so
 pub leads_on : (x : Position) (k : SyntaxKind) (next : Option SyntaxKind) (touch : Bool) → is_in_row_of x k ≡ true → leads k (action_at x next touch) ≡ true
 leads_on (p.AfterOperand min_bp max_bp) k next touch h = absurd (true_is_not_false (sym h))
 leads_on (p.Right level) k next touch h = h

@@ -30,7 +30,7 @@ row_remaining (p.InRow i) h = waiting_remaining (remaining_at i) h
 row_remaining (p.AfterOperand min_bp max_bp) h = refl
 row_remaining (p.Right level) h = refl
 
--- an open node whose leaves keep the kinds of their tokens, or a second name
+-- an open node whose leaves keep their tokens' kinds, or a second name
 abbrev pub is_sound : Head → Bool
 is_sound (Node k) = if is_error k then false else true
 is_sound SecondBind = true
@@ -47,11 +47,11 @@ pub sound_open : (h : Head) → is_sound h ≡ true → is_open h ≡ true
 sound_open Operand e = e
 sound_open _ e = refl
 
--- what is left of its row does not begin with a child that every such node has
+-- the rest of its row does not begin with a child that its node always has
 pub left_of : (f : Frame) → IsOpen f → is_remaining (rest_at f.position) ≡ true
 left_of f o = row_remaining f.position (in_row f.position (kind_of f.head) o.in_row_of)
 
--- what is above some frames: an open node with its children so far, or an operand or a second name
+-- what is directly above some frames: an open node with its children so far, or an operand or a second name
 pub data Above : Type 0 where
   One : SyntaxKind → AnnotatedForest → Above
   Other : Above
@@ -60,7 +60,7 @@ abbrev pub above : Head → AnnotatedForest → Above
 above (Node k) trees = One k trees
 above h trees = Other
 
--- The frames below: open nodes, and operands whose first tree will be the open node above them, whatever that comes to contain.
+-- The frames below are open nodes, and operands whose first tree will be the open node above them, whatever it comes to contain.
 pub data Below : Above → List Frame → Type 0 where
   no_frame : {k : SyntaxKind} {trees : AnnotatedForest} → Below (One k trees) []
   a_row : {w : Above} {f : Frame} {fs : List Frame} → IsOpen f → Below (above f.head f.children) fs → Below w (f ∷ fs)
@@ -86,7 +86,7 @@ pub data Reading : List Frame → Type 0 where
   operand : {min_bp max_bp d : ℕ} {x : AnnotatedForest} {fs : List Frame} → AtOperand min_bp max_bp d x fs
       → Reading (opened Operand (p.AfterOperand min_bp max_bp) d x ∷ fs)
 
--- the frames below an open frame stay as they are when it gets more children
+-- what is below an open frame stays valid when the frame gets more children
 below_more : (h : Head) (trees x : AnnotatedForest) {fs : List Frame} → Below (above h trees) fs → Below (above h (trees ⊕ x)) fs
 below_more (Node k) trees x no_frame = no_frame
 below_more (Node k) trees x (a_row i b) = a_row i b
@@ -96,21 +96,21 @@ below_more (Node k) trees x (an_operand min_bp max_bp d l grows b) =
 below_more SecondBind trees x b = b
 below_more Operand trees x b = b
 
--- an open frame moves to another position of its row
+-- an open frame stays valid when it moves to another position of its row, with other children
 went : (f : Frame) (fs : List Frame) (y : Position) (trees : AnnotatedForest) → AtOpen f fs → is_in_row_of y (kind_of f.head) ≡ true
     → Below (above f.head trees) fs → AtOpen (put y trees f) fs
 went f fs y trees r h b = record { is = record { sound = r.is.sound; in_row_of = h; shallow = r.is.shallow }; below = b }
 
--- so does an open frame that gets more children
+-- an open frame stays valid when it moves and gets more children
 pub grown : (f : Frame) (fs : List Frame) (y : Position) (x : AnnotatedForest) → AtOpen f fs → is_in_row_of y (kind_of f.head) ≡ true
     → AtOpen (put y (f.children ⊕ x) f) fs
 grown f fs y x r h = went f fs y (f.children ⊕ x) r h (below_more f.head f.children x r.below)
 
--- so does an open frame with the same children
+-- an open frame stays valid when it moves and keeps its children
 pub stayed : (f : Frame) (fs : List Frame) (y : Position) → AtOpen f fs → is_in_row_of y (kind_of f.head) ≡ true → AtOpen (put y f.children f) fs
 stayed f fs y r h = went f fs y f.children r h r.below
 
--- an open frame may be below a frame that opens above it
+-- an open frame may be below any frame that opens above it
 pub waits : {w : Above} (f : Frame) (fs : List Frame) → AtOpen f fs → Below w (f ∷ fs)
 waits f fs r = a_row r.is r.below
 
@@ -125,7 +125,7 @@ opens_on k z d x fs s h l b = record { is = record { sound = s; in_row_of = h; s
 pub alone : Below Other [] → ⊥
 alone b = elim b [ ]
 
--- a complete frame becomes a tree of the frame below
+-- when a frame is complete, its tree becomes a child of the frame below
 pub landed : (h : Head) (trees : AnnotatedForest) (g : Frame) (fs : List Frame) → Below (above h trees) (g ∷ fs)
     → Reading (put g.position (g.children ⊕ made h trees) g ∷ fs)
 landed (Node k) trees _ fs (an_operand min_bp max_bp d l grows b) = operand (record {

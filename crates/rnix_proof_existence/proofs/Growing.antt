@@ -11,7 +11,7 @@ abbrev pub seen_kind : AnnotatedForest → SyntaxKind
 seen_kind (branch k c f) = k
 seen_kind f = NODE_LITERAL
 
--- A single tree may be an operand of a level, and is continued by what binds no tighter than another level.
+-- A single tree may be an operand of a level, and only what binds no tighter than another level continues it.
 pub record MayGrow (min_bp max_bp : ℕ) (x : AnnotatedForest) : Type 0 where
   pub fit : fits min_bp (seen_kind x) ≡ true
   pub tight : fits max_bp (seen_kind x) ≡ true
@@ -29,7 +29,7 @@ pub atom_seen : (x : AnnotatedForest) → is_atom_row x ≡ true → is_atom (se
 atom_seen (branch k c f) h = h
 atom_seen _ h = cc
 
--- a tree that fits its own level may be an operand of each looser one, and is continued by what may follow it
+-- a tree that fits its own level may be an operand of each looser one, and may be continued by what may follow it
 pub grows_by : (min_bp max_bp : ℕ) (x : AnnotatedForest) → fits (row_level x) (seen_kind x) ≡ true → min_bp ≤ row_level x → max_bp ≤ row_level x
     → FollowedTo max_bp x
     → is_or_row x ≡ false
@@ -42,12 +42,12 @@ grows_by min_bp max_bp x f l h w o = record {
   no_or = o;
 }
 
--- everything may continue an atom
+-- anything may continue an atom
 pub atom_grows : (min_bp : ℕ) (x : AnnotatedForest) → is_atom_row x ≡ true → row_level x ≡ 16 → is_or_row x ≡ false → min_bp ≤ 16 → MayGrow min_bp 16 x
 atom_grows min_bp x h v o l =
     grows_by min_bp 16 x (atom_fits (row_level x) (seen_kind x) (atom_seen x h)) (omega (arith, v, l)) (omega (arith, v)) (followed_atom x v h) o
 
--- arguments may continue a call, and so may what is looser
+-- arguments and everything looser may continue a call
 pub call_grows : (min_bp : ℕ) (c : AnnotatedForest) → min_bp ≤ row_level (one_branch NODE_APPLY c) → MayGrow min_bp 15 (one_branch NODE_APPLY c)
 call_grows min_bp c l = by (calls_or c) refl
   where
@@ -61,7 +61,7 @@ call_grows min_bp c l = by (calls_or c) refl
     by true e = grows_by min_bp 15 x (simple_fits (row_level x) NODE_APPLY refl) l (omega (arith, level true e)) (followed_selection x (level true e) refl) refl
     by false e = grows_by min_bp 15 x (simple_fits (row_level x) NODE_APPLY refl) l (omega (arith, level false e)) (followed_call x (level false e) refl) refl
 
--- the tree of a binary operator is continued by operators up to the operator's `max_bp_of`
+-- operators up to `max_bp_of` of a binary operator may continue its operation
 pub operator_grows : (min_bp : ℕ) (k : SyntaxKind) (c : AnnotatedForest) → is_infix k ≡ true → min_bp ≤ binding_power k
     → row_level (one_branch NODE_BIN_OP c) ≡ binding_power k
     → MayGrow min_bp (max_bp_of k) (one_branch NODE_BIN_OP c)

@@ -1,4 +1,4 @@
--- Each step at an open node or a second name preserves what is known of the frames, and if the text can be read on after it, so it can before it.
+-- Each step at an open node or a second name preserves what is known of the frames. If the text can be read after the step, it can be read before it.
 use Rattle.std.proofs.Common.{◌≡◌, inl, ℕ, suc, ◌≤◌, ◌<◌, Bool, true, false, List, [], ◌∷◌, ◌++◌, Option, Some, refl, ap, sym, ◌∙◌, subst, append_assoc}
 use Rattle.std.proofs.{Common.{append-nil, arith, if◌then◌else◌, nat_le, ◌&&◌}, lemmas.Bool.{and_parts, Decides.nat_tests}}
 use Rattle.rnix_kinds.specs.declared.kinds.SyntaxKind.{SyntaxKind, TheVariants.{NODE_IDENT, NODE_PAT_ENTRY, NODE_ERROR, NODE_LITERAL, TOKEN_AT}}
@@ -23,15 +23,15 @@ use Rattle.rnix_proof_existence.proofs.OpenFrames.{item, IsRead, EndsOn, RowEnds
 use Rattle.rnix_grammar.specs.declared.position.Position.TheVariants as p
 use Rattle.rnix_grammar.specs.declared.action.Action.TheVariants as a
 
--- whether the next item, or the end of the text, is expected
+-- the row expects the next item, or the end of the text, exactly if the test says so
 expected : (r : Row) (n : ℕ) (ts : List Token) (own : Bool) → expects_next r (touches n ts) (head_kind ts) ≡ own → IsExpected r n ts own
 expected r n ts own h = expected_as r n ts own (expects_at r n ts ∙ h)
 
--- a row may end here
+-- a row may end here if the test says so
 over : (r : Row) (n : ℕ) (ts : List Token) → MayEnd r (touches n ts) (head_kind ts) → IsOver r n ts
 over r n ts w = (w.0, expected r n ts false w.1)
 
--- all items that are left, and those that follow them
+-- all items that are left, and the items after these
 all_remaining : (ts : List Token) → ts ≡ ts ++ dropped ts ts
 all_remaining ts = sym (ap (λ z. ts ++ z) (dropped_all ts) ∙ append-nil ts)
 
@@ -76,16 +76,16 @@ is_second (Node k) s h = absurd (true_is_not_false (sym s ∙ ap (λ k. is_sound
 is_second SecondBind s h = refl
 is_second Operand s h = absurd (cc)
 
--- a frame; the last item that was read ends at n, and gs are the errors so far
+-- a frame, where the last item read ends at `n`, and `gs` are the errors so far
 module _ (whole : Outcome) (f : Frame) (n : ℕ) (gs : List Fault) where
-  -- what is left of its row, and its kind
+  -- the rest of its row, and its kind
   abbrev here : Row
   here = rest_at f.position
 
   abbrev kind : SyntaxKind
   kind = kind_of f.head
 
-  -- its row is complete
+  -- its row is complete, so it closes
   closes : (fs : List Frame) → AtOpen f fs → (ts : List Token) (hs : List Fault) → MayEnd here (touches n ts) (head_kind ts) → hs ≡ gs ++ reported f fs
       → IsPreserved whole (closed f fs ts n hs) f fs ts n gs
   closes [] r ts hs o h = (node r, λ ends. subst (EndsOn whole [] f ts n) (h ∙ append-nil gs) ends)
@@ -111,14 +111,14 @@ module _ (whole : Outcome) (f : Frame) (n : ℕ) (gs : List Fault) where
     }),
   )
 
-  -- so is an entry of a pattern, which may repeat another's name
+  -- an entry of a pattern closes, and may repeat another one's name
   closes_entry : (fs : List Frame) → AtOpen f fs → (ts : List Token) → MayEnd here (touches n ts) (head_kind ts) → kind ≡ NODE_PAT_ENTRY
       → IsPreservedBy whole a.CloseEntry f fs ts n gs
   closes_entry [] r ts o h = (node r, λ ends. ends)
   closes_entry (g ∷ fs) r ts o h = closes (g ∷ fs) r ts (gs
       ++ repeated g.children f.children) o (ap (λ z. gs ++ z) (sym (entry f.head g.children f.children h)))
 
-  -- and a second name
+  -- a second name closes
   closes_double_bind : (fs : List Frame) → AtOpen f fs → (ts : List Token) → MayEnd here (touches n ts) (head_kind ts) → f.head ≡ SecondBind
       → IsPreservedBy whole a.CloseDoubleBind f fs ts n gs
   closes_double_bind [] r ts o h = absurd (alone (subst (λ (h : Head). Below (above h f.children) []) h r.below))
@@ -129,7 +129,7 @@ module _ (whole : Outcome) (f : Frame) (n : ℕ) (gs : List Fault) where
     wide : is_open f.head ≡ true
     wide = sound_open f.head r.is.sound
 
-    -- no tree before this position asks for a certain next item
+    -- no tree before this position requires a certain next item
     followed : (next : Option SyntaxKind) → IsFollowed here f.children next
     followed next = remaining_followed here (left_of f r.is) f.children next
 
@@ -147,7 +147,7 @@ module _ (whole : Outcome) (f : Frame) (n : ℕ) (gs : List Fault) where
         goes_on (p.InRow y) (item kind t) (t ∷ ts) ts t.end [] gs in_row_of spanned (sym (append-nil gs))
         (λ vs s x es e z. leaf_from e w (followed (Some (leaf_kind kind t))) g z)
 
-    -- the text ends, and an error reports what is missing
+    -- at the end of the text, an error reports the missing part
     misses : (e : Fault) (y : ℕ) → is_in_row_of (p.InRow y) kind ≡ true → missing here ≡ Some (e, remaining_at y)
         → (expects_end here ≡ false → IsRoom here f.depth)
         → IsPreserved whole (machine (put (p.InRow y) f.children f ∷ fs) [] n (gs ++ e ∷ [])) f fs [] n gs
@@ -178,14 +178,14 @@ module _ (whole : Outcome) (f : Frame) (n : ℕ) (gs : List Fault) where
         wrongs (t ∷ ts) (dropped run (t ∷ ts)) run (p.InRow y) (Unwanted until) in_row_of all w
         (ap is_some (run_begins until t ts u), ap (run_of until) all, at)
 
-    -- all items after the root's expression become one
+    -- all items after the root's expression become one error node
     remaining_over : (t : Token) (ts : List Token) → here ≡ TextEnd · done → IsPreservedBy whole a.Extra f fs (t ∷ ts) n gs
     remaining_over t ts e =
         wrongs (t ∷ ts) (dropped (t ∷ ts) (t ∷ ts)) (t ∷ ts) f.position Extra r.is.in_row_of (all_remaining (t ∷ ts))
         (subst (λ (q : Row). IsExpected q n (t ∷ ts) false) (sym e) refl)
         (refl, dropped_all (t ∷ ts), e, refl)
 
-    -- a node that is no operand is read in front of the rest of the row
+    -- a node that is no operand is read before the rest of the row
     node_here : (k : SyntaxKind) (y : ℕ) (ts : List Token) → IsNodeHere here (touches n ts) (head_kind ts) k (remaining_at y)
         → (c : AnnotatedForest) (us : List Token) (m : ℕ) (u : Row) (ds : List Fault) → Spans ts n us m c → Reads k f.depth n (row_of_kind k) u blank us c ds
         → IsOver u m us
@@ -204,7 +204,7 @@ module _ (whole : Outcome) (f : Frame) (n : ℕ) (gs : List Fault) where
         goes_on (p.InRow y) (one_branch NODE_IDENT (item NODE_IDENT t)) (t ∷ ts) ts t.end [] gs in_row_of spanned (sym (append-nil gs))
         (node_here NODE_IDENT y (t ∷ ts) w (item NODE_IDENT t) ts t.end done [] spanned (name_reads t k) (past_over t.end ts))
 
-    -- another frame opens with some trees, and when it is complete it is read in front of the rest of the row
+    -- another frame opens with some trees; when it is complete, its tree is read before the rest of the row
     opens : (h : Head) (q : Row) (z : Position) (y : ℕ) (x : AnnotatedForest) (ts us : List Token) (m : ℕ) → is_sound h ≡ true
         → (is_in_row_of z (kind_of h) && is_in_row_of (p.InRow y) kind) ≡ true
         → Spans ts n us m x → Fronts (kind_of h) f.depth n q blank x us m (rest_at z) []
@@ -250,7 +250,7 @@ module _ (whole : Outcome) (f : Frame) (n : ℕ) (gs : List Fault) where
         (λ vs s x es e z. leaf_from e tt tt (ap (after second_name) j) z)
         (λ c remaining m u ds v z o vs s x es e w. second_from e z v.item_end o i l w)
 
-    -- an operand of a level begins, inside d counted positions, or the text ends
+    -- an operand of a level begins, inside `d` counted positions, or is missing at the end of the text
     operand_at : (ts : List Token) (level d y : ℕ) → level ≤ 16 → d ≤ depth_limit → is_in_row_of (p.InRow y) kind ≡ true → Takes here level (remaining_at y)
         → d ≡ deeper here f.depth → IsRoom here f.depth
         → IsExpected here n ts false → (ts ≡ [] → missing here ≡ Some (unexpected_eof, remaining_at y))
@@ -300,7 +300,7 @@ module _ (whole : Outcome) (f : Frame) (n : ℕ) (gs : List Fault) where
         by false e = inside f.depth r.is.shallow (ap (λ w. if w then suc f.depth else f.depth) (sym e)) (λ v. absurd (true_is_not_false (sym v ∙ e)))
         by true e = limit e (nat_le depth_limit f.depth) refl
 
-    -- each action that the rules allow at the position
+    -- each allowed action at the position preserves what is known
     done_by : (action : Action) (ts : List Token) → IsActionAt here (touches n ts) (head_kind ts) action → leads kind action ≡ true
         → IsPreservedBy whole action f fs ts n gs
     done_by a.Close ts w h = closes fs r ts gs w (sym (ap (λ z. gs ++ z) (silent f fs r.is.sound (not_if (is_reported kind) h)) ∙ append-nil gs))
@@ -327,7 +327,7 @@ module _ (whole : Outcome) (f : Frame) (n : ℕ) (gs : List Fault) where
     done_by _ [] w h = absurd w
     done_by _ (t ∷ ts) w h = absurd w
 
-    -- each step at an open frame
+    -- each step at an open frame preserves what is known
     pub node_step : (ts : List Token) → IsPreservedBy whole (action_at f.position (head_kind ts) (touches n ts)) f fs ts n gs
     node_step ts =
         done_by (action_at f.position (head_kind ts) (touches n ts)) ts

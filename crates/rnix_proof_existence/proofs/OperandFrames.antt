@@ -1,4 +1,4 @@
--- However an operand begins, the step keeps what is known of the frames, and what is read from there on contains the complete operand.
+-- However an operand begins, the step preserves what is known of the frames, and what is read from there on contains the complete operand.
 use Rattle.std.proofs.Common.{◌≡◌, ℕ, ◌≤◌, true, false, List, [], ◌∷◌, ◌++◌, Some, refl, ap, sym, ◌∙◌, subst, arith, append_assoc, append-nil}
 use Rattle.rnix_kinds.specs.declared.kinds.SyntaxKind.{SyntaxKind, TheVariants.{TOKEN_LET, TOKEN_L_BRACE, TOKEN_IDENT, TOKEN_AT, NODE_IDENT, NODE_IDENT_PARAM}}
 use Rattle.rnix_kinds.specs.declared.kinds.SyntaxKind.TheVariants.{NODE_LAMBDA, NODE_LEGACY_LET, NODE_PATTERN, NODE_PAT_BIND}
@@ -17,19 +17,19 @@ use Rattle.rnix_proof_existence.proofs.OpenFrames.{open_ends, operand_ends, Oper
 use Rattle.rnix_grammar.specs.declared.position.Position.TheVariants as p
 use Rattle.rnix_grammar.specs.declared.operand_start.OperandStart.TheVariants as b
 
--- the children of a node begin with an item
+-- the children of a node begin with an item that its row accepts first
 pub item_first : {d n : ℕ} {q : Row} (k : SyntaxKind) (t : Token) (us : List Token) → IsFront (row_of_kind k) → after (row_of_kind k) (leaf_kind k t) ≡ q
     → Fronts k d n (row_of_kind k) blank (item k t) us t.end q []
 item_first {n = n} k t us w g vs s f es v z = leaf_from v (w.expected n (t ∷ us) true) (w.followed blank (Some (leaf_kind k t))) g z
 
--- it begins with a node that is no operand
+-- the children of a node begin with a node that is no operand
 node_first : {d n m : ℕ} {u : Row} {ts us : List Token} {ds : List Fault} (k j : SyntaxKind) (c : AnnotatedForest) → IsFront (row_of_kind k) → Spans ts n us m c
     → Reads j d n (row_of_kind j) u blank us c ds → IsOver u m us
     → Fronts k d n (row_of_kind k) blank (one_branch j c) us m (after (row_of_kind k) j) (ds ++ repeats j blank c)
 node_first {n = n} {ts = ts} k j c w v reads o vs s f es i z =
     plain_from w.no_operand i v.items reads v.item_end o (w.expected n ts (is_first_expected (row_of_kind k) j c)) (w.followed blank (head_kind ts)) refl z refl
 
--- it begins with a name
+-- the children of a node begin with a name
 pub name_first : {d n : ℕ} (k : SyntaxKind) (t : Token) (us : List Token) → IsFront (row_of_kind k) → t.kind ≡ TOKEN_IDENT
     → Fronts k d n (row_of_kind k) blank (one_branch NODE_IDENT (item NODE_IDENT t)) us t.end (after (row_of_kind k) NODE_IDENT) []
 name_first k t us w e =
@@ -43,7 +43,7 @@ begins_as : (level : ℕ) (t : Token) (us : List Token) (how : OperandStart) (x 
 begins_as level t us how x e h =
     sym (kind_of_begin (first_kind level t.kind t.text (head_kind us) (second_kind us)) t.kind) ∙ ap kind_of e ∙ h
 
--- a complete operand of a level is read, becomes a child of the frame that waits for it, and what follows ends as it should
+-- a complete operand of a level can be read, becomes a child of the frame that waits for it, and the rest can be read to the outcome
 pub record OperandStartEnds (whole : Outcome) (level d : ℕ) (g : Frame) (fs : List Frame) (ts : List Token) (n : ℕ) (gs : List Fault) : Type 0 where
   pub remaining : List Token
   pub prev_end : ℕ
@@ -53,24 +53,24 @@ pub record OperandStartEnds (whole : Outcome) (level d : ℕ) (g : Frame) (fs : 
   pub read : IsRead level d n ts tree remaining prev_end inside
   pub ends : EndsOn whole fs (put g.position (g.children ⊕ tree) g) remaining prev_end (gs ++ inside)
 
--- an operand of a level, inside d counted positions, above a frame that waits for it; the item before it ends at n, and gs are the errors before it
+-- an operand of a level above a frame that waits for it, inside `d` counted positions; the item before it ends at `n`, with the errors `gs` before it
 module _ (whole : Outcome) (level d : ℕ) (g : Frame) (fs : List Frame) (n : ℕ) (gs : List Fault) (r : AtOpen g fs) (s : d ≤ depth_limit) (l : level ≤ 16) where
-  -- a machine that has read the beginning
+  -- a machine that has read the operand's beginning: its frames are valid, and if the text can be read after it, so can the operand
   abbrev pub OperandStarts : Machine → List Token → Type 0
   OperandStarts m ts = Reading m.frames × (EndsAll whole m.frames m.remaining m.prev_end m.faults → OperandStartEnds whole level d g fs ts n gs)
 
-  -- the frame of an operand that operators up to a level may continue, and that of a function
+  -- the frame of an operand that operators up to a level may continue, and the frame of a function
   abbrev under : ℕ → AnnotatedForest → Frame
   under max_bp x = opened Operand (p.AfterOperand level max_bp) d x
 
   abbrev lambda : Frame
   lambda = opened (Node NODE_LAMBDA) (p.InRow LAMBDA) d blank
 
-  -- the frames below the first tree
+  -- the frames below the operand's first tree
   abbrev below : ℕ → List Frame
   below max_bp = under max_bp blank ∷ (g ∷ fs)
 
-  -- it begins with a complete tree
+  -- the operand begins with a complete tree
   tree_begins : (max_bp : ℕ) (x : AnnotatedForest) (ts us : List Token) (m : ℕ) (cs hs : List Fault) → IsSingle x → MayGrow level max_bp x
       → IsRead level d n ts x us m cs → hs ≡ gs ++ cs
       → OperandStarts (machine (under max_bp x ∷ (g ∷ fs)) us m hs) ts
@@ -91,7 +91,7 @@ module _ (whole : Outcome) (level d : ℕ) (g : Frame) (fs : List Frame) (n : �
             ∙ append_assoc gs cs o.inside) o.ends;
       }
 
-  -- it begins with a node of which some trees are read
+  -- the operand begins with a node of which some trees are read
   node_begins : (max_bp : ℕ) (k : SyntaxKind) (z : ℕ) (x : AnnotatedForest) (ts us : List Token) (m : ℕ) (zs hs : List Fault) → is_sound (Node k) ≡ true
       → is_in_row_of (p.InRow z) k ≡ true
       → ((rest : AnnotatedForest) → MayGrow level max_bp (one_branch k (x ⊕ rest))) → Spans ts n us m x
@@ -119,7 +119,7 @@ module _ (whole : Outcome) (level d : ℕ) (g : Frame) (fs : List Frame) (n : �
   lambda_grows : (c : AnnotatedForest) → MayGrow level 16 (one_branch NODE_LAMBDA c)
   lambda_grows c = atom_grows level (one_branch NODE_LAMBDA c) refl refl refl l
 
-  -- it begins with a function whose pattern has some trees
+  -- the operand begins with a function of whose pattern some trees are read
   pattern_begins : (z : ℕ) (x : AnnotatedForest) (ts us : List Token) (m : ℕ) → is_in_row_of (p.InRow z) NODE_PATTERN ≡ true → Spans ts n us m x
       → Fronts NODE_PATTERN d n (row_of_kind NODE_PATTERN) blank x us m (remaining_at z) []
       → ((c rest : AnnotatedForest) → BeginsAs level (one_branch NODE_LAMBDA (one_branch NODE_PATTERN c ⊕ rest)) ts)
@@ -140,7 +140,7 @@ module _ (whole : Outcome) (level d : ℕ) (g : Frame) (fs : List Frame) (n : �
           (node_first NODE_LAMBDA NODE_PATTERN o.rest (front (row_of_kind NODE_LAMBDA) refl) o.span o.reads o.ends.0)
           (first o.rest) (append_assoc gs o.inside [])).1 o.ends.1
 
-  -- it begins in one of the ways that the table of beginnings has
+  -- the operand begins in one of the ways in the table
   begun_begins : (how : OperandStart) (t : Token) (us : List Token) → operand_start_of level t.kind t.text (head_kind us) (second_kind us) ≡ how
       → BeginsTree how level t.kind (head_kind us) → OperandStarts (begun false how level d t g fs (t ∷ us) n gs) (t ∷ us)
   begun_begins (b.Leaf k) t us e h =
@@ -197,7 +197,7 @@ module _ (whole : Outcome) (level d : ℕ) (g : Frame) (fs : List Frame) (n : �
       tree_begins 16 x (t ∷ us) us t.end (report Stray (t ∷ []) ∷ []) (gs ++ report Stray (t ∷ []) ∷ []) an_error (atom_grows level x refl refl refl l)
       (record { span = spanned; begins = begins_as level t us b.Stray x e refl; operand_tree = lone_error }) refl
 
-  -- an operand of the level begins with an item
+  -- the step at an operand's first item preserves what is known
   pub operand_begins : (t : Token) (us : List Token) → OperandStarts (operand_on false level d g fs (t ∷ us) (t ∷ us) n gs) (t ∷ us)
   operand_begins t us =
       begun_begins (operand_start_of level t.kind t.text (head_kind us) (second_kind us)) t us refl

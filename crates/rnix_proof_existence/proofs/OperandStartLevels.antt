@@ -16,7 +16,7 @@ use Rattle.std.{specs.Option.is_some, proofs.Common.None}
 use Rattle.rnix_grammar.specs.declared.position.Position.TheVariants as p
 use Rattle.rnix_grammar.specs.declared.operand_start.OperandStart.TheVariants as b
 
--- the kinds of nodes that begin with a token where they are operands
+-- the kinds of operands that begin with a token
 abbrev is_begun : SyntaxKind → Bool
 is_begun NODE_APPLY = false
 is_begun NODE_BIN_OP = false
@@ -28,22 +28,22 @@ is_begun k = is_expression k
 pub begun_front : (k : SyntaxKind) → is_begun k ≡ true → IsFront (row_of_kind k)
 begun_front k h = front (row_of_kind k) (implied is_begun (λ j. is_front (row_of_kind j)) refl k h)
 
--- and it is its own first tree
+-- such a node is its own first tree
 pub own_first : (k j : SyntaxKind) (t : Token) (r : AnnotatedForest) → is_begun k ≡ true → first_tree (one_branch k (token j t r)) ≡ k
 own_first NODE_APPLY j t r h = absurd (true_is_not_false (sym h))
 own_first _ j t r h = cc
 
--- its level, by whether its first item is `!`
+-- the level of such a node, which for a prefix operator depends on whether it is `!`
 abbrev own_level : Bool → SyntaxKind → ℕ
 own_level inverts NODE_UNARY_OP = if inverts then 9 else 14
 own_level inverts k = if is_keyword_expression k then 0 else 16
 
--- the highest level of what continues it
+-- the highest level of what may continue such a node
 abbrev max_bp_at : Bool → SyntaxKind → ℕ
 max_bp_at inverts NODE_UNARY_OP = if inverts then 8 else 13
 max_bp_at inverts k = own_level inverts k
 
--- such a node fits its level, and what continues it is at most as tight as that
+-- such a node fits its level, and what may continue it binds no tighter
 abbrev grows_so : Bool → SyntaxKind → Bool
 grows_so inverts k =
     fits (own_level inverts k) k && (nat_le (max_bp_at inverts k) (own_level inverts k) && list_all
@@ -53,11 +53,11 @@ each_grows : (inverts : Bool) (k : SyntaxKind) → is_begun k ≡ true → grows
 each_grows true = implied is_begun (grows_so true) refl
 each_grows false = implied is_begun (grows_so false) refl
 
--- it begins with `!`
+-- the item is `!`
 abbrev inverts : SyntaxKind → Bool
 inverts kind = same_kind kind TOKEN_INVERT
 
--- what is known of the first items, and of the tree that begins so: an atom of one item, or a node that is no looser than the level
+-- what is known of the first items and of the tree that begins with them: an atom of one item, or a node that is no looser than the level
 abbrev pub BeginsTree : OperandStart → ℕ → SyntaxKind → Option SyntaxKind → Type 0
 BeginsTree (b.Leaf k) level kind second =
     (after (row_of_kind k) (leaf_kind_as k kind) ≡ done) × (is_begun k ≡ true) × (is_atom k ≡ true) × ((if is_error k then is_or kind else false) ≡ false)
@@ -70,7 +70,7 @@ BeginsTree b.BoundLambda level kind second = (kind ≡ TOKEN_IDENT) × (second �
 BeginsTree b.PatternLambda level kind second = kind ≡ TOKEN_L_BRACE
 BeginsTree b.Stray level kind second = Unit {0}
 
--- a node of one token is no name `or`
+-- a node over one token is not the name `or`, if it is none by its token
 pub leaf_no_or : (k j : SyntaxKind) (t : Token) → (if is_error k then is_or t.kind else false) ≡ false → is_or_row (one_branch k (one_token j t)) ≡ false
 leaf_no_or NODE_IDENT j t h = h
 leaf_no_or _ j t h = refl
@@ -81,7 +81,7 @@ tight NODE_UNARY_OP TOKEN_INVERT t r h = refl
 tight NODE_UNARY_OP _ t r h = refl
 tight _ kind t r h = cc
 
--- a node that begins so may be an operand of a level that it is no looser than
+-- a node that begins so may be an operand of each level that is no tighter than its own
 pub begun_grows : (k kind : SyntaxKind) (level : ℕ) (t : Token) (r : AnnotatedForest) → is_begun k ≡ true → level ≤ own_level (inverts kind) k
     → is_sound (Node k) ≡ true
     → MayGrow level (max_bp_at (inverts kind) k) (one_branch k (token (leaf_kind_as k kind) t r))
@@ -94,14 +94,14 @@ begun_grows k kind level t r o l sound =
     grows_by level (max_bp_at (inverts kind) k) (one_branch k c) (ap (λ n. fits n k) e ∙ q.0) (omega (arith, e, l)) (omega (arith, e, max_bp))
     (followed_by (own_level (inverts kind) k) (is_atom k) (max_bp_at (inverts kind) k) z.1 (one_branch k c) e refl) (no_name k c (not_if (is_error k) sound))
 
--- so it is at each looser level
+-- what begins at a level begins at each looser one
 looser : (how : OperandStart) (level n : ℕ) (kind : SyntaxKind) (second : Option SyntaxKind) → level ≤ n → BeginsTree how n kind second
     → BeginsTree how level kind second
 looser (b.Node k z max_bp) level n kind second l h = (h.0, h.1, omega (arith, l, h.2), h.3, h.4, h.5)
 looser b.LegacyLet level n kind second l h = (h.0, h.1, omega (arith, l, h.2))
 looser how level n kind second l h = h
 
--- the highest level at which it begins
+-- the highest level at which an item begins an operand
 abbrev top : Option ℕ → ℕ
 top None = 16
 top (Some n) = n
@@ -114,7 +114,7 @@ up_to_top (Some n) level l a = a
 at_most_itself : (n : ℕ) → n ≤ n
 at_most_itself n = omega arith
 
--- the table read backwards
+-- the action of the table gives what is known of the tree that begins
 pub begun_tree : (level : ℕ) (kind : SyntaxKind) (text : List ℕ) (second third : Option SyntaxKind) → level ≤ 16
     → BeginsTree (operand_start_of level kind text second third) level kind second
 begun_tree level kind text second third l =

@@ -1,4 +1,4 @@
--- Steps at an operand preserve what is known of the frames, and if the text can be read on after one, so it can before it.
+-- Each step at an operand preserves what is known of the frames. If the text can be read after the step, it can be read before it.
 use Rattle.std.proofs.Common.{◌≡◌, inr, ℕ, ◌≤◌, Bool, true, false, List, [], ◌∷◌, ◌++◌, Some, None, refl, ap, sym, ◌∙◌, subst, append_assoc, append-nil, arith}
 use Rattle.std.proofs.{Common.{◌||◌, ◌&&◌, if◌then◌else◌, nat_eq, nat_le}, lemmas.Bool.{and_parts, and_from, Decides.nat_tests}}
 use Rattle.rnix_kinds.specs.declared.kinds.SyntaxKind.{SyntaxKind, TheVariants.{TOKEN_DOT, TOKEN_OR, TOKEN_QUESTION, NODE_SELECT, NODE_APPLY, NODE_HAS_ATTR}}
@@ -28,7 +28,7 @@ argument_is k h = implied (λ o. nat_eq (binding_power o) 15) is_fn_arg refl k (
 argument_no_or : (k : SyntaxKind) → binding_power k ≡ 15 → is_or k ≡ false
 argument_no_or k h = not_if (is_or k) (implied (λ o. nat_eq (binding_power o) 15) (λ o. if is_or o then false else true) refl k (grind (arith, nat_tests, h)))
 
--- an item that may not continue an operand between two levels does not continue a tree that allows no tighter one
+-- an item that may not continue an operand between two levels continues no tree that only looser items continue
 not_followed_behind : (min_bp max_bp : ℕ) (x : AnnotatedForest) (ts : List Token) →
     ((j : SyntaxKind) → head_kind ts ≡ Some j → may_continue min_bp max_bp j ≡ false)
     → FollowedTo max_bp x → is_continued min_bp x ts ≡ false
@@ -43,16 +43,16 @@ not_followed_behind min_bp max_bp x (t ∷ ts) h w = by (follows t.kind x) (nat_
         absurd (true_is_not_false (sym (and_from _ _ (at_most_true 1 (binding_power t.kind) q.0)
         (and_from _ _ f (at_most_true (binding_power t.kind) max_bp q.1))) ∙ h t.kind refl))
 
--- trees with one first tree begin alike
+-- an operand begins as another one does whose first tree is the same
 begun_same : (level : ℕ) (x y : AnnotatedForest) (ts : List Token) → first_tree y ≡ first_tree x → BeginsAs level x ts → BeginsAs level y ts
 begun_same level x y [] e h = h
 begun_same level x y (t ∷ ts) e h = h ∙ sym e
 
--- the level of a token lies between two
+-- the binding power of a token is between two levels
 abbrev Between : ℕ → ℕ → SyntaxKind → Type 0
 Between min_bp max_bp k = (1 ≤ binding_power k) × (min_bp ≤ binding_power k) × (binding_power k ≤ max_bp)
 
--- so does that of a token that continues an operand
+-- the binding power of a token that may continue an operand is between the operand's levels
 between : (min_bp max_bp : ℕ) (k : SyntaxKind) → may_continue min_bp max_bp k ≡ true → Between min_bp max_bp k
 between min_bp max_bp k h =
     let x = and_parts _ _ h in let y = within min_bp (binding_power k) max_bp x.1 in (at_most 1 (binding_power k) x.0, y.0, y.1)
@@ -68,14 +68,14 @@ data FollowsBy : SyntaxKind → Action → Type 0 where
 no_binding_power : (k : SyntaxKind) (action : Action) → 1 ≤ 0 → FollowsBy k action
 no_binding_power k action h = absurd (omega (arith, h))
 
--- each token with a level has such an action
+-- each token with a binding power has such an action
 followed_by : (k : SyntaxKind) → 1 ≤ binding_power k → FollowsBy k (continue_action k)
 followed_by TOKEN_DOT h = by_dot
 followed_by TOKEN_OR h = by_or
 followed_by TOKEN_QUESTION h = by_question
 followed_by _ h = first_of (search by_operator, search by_argument, search (no_binding_power, h))
 
--- an operand that operators between two levels may continue, inside d counted positions; the last item that was read ends at n, and gs are the errors so far
+-- an operand that operators between two levels may continue, inside `d` counted positions; the last item read ends at `n`, and `gs` are the errors so far
 module _ (whole : Outcome) (min_bp max_bp d : ℕ) (x : AnnotatedForest) (n : ℕ) (gs : List Fault) where
   -- its frame
   abbrev frame : Frame
@@ -85,7 +85,7 @@ module _ (whole : Outcome) (min_bp max_bp d : ℕ) (x : AnnotatedForest) (n : �
   abbrev other_frame : ℕ → AnnotatedForest → Frame
   other_frame other c = opened Operand (p.AfterOperand min_bp other) d c
 
-  -- no item continues it, and it is complete
+  -- no item continues the operand, so it is complete
   settles : (fs : List Frame) → AtOperand min_bp max_bp d x fs → (ts : List Token)
       → ((j : SyntaxKind) → head_kind ts ≡ Some j → may_continue min_bp max_bp j ≡ false)
       → IsPreservedBy whole a.EndOperand frame fs ts n gs
@@ -109,11 +109,11 @@ module _ (whole : Outcome) (min_bp max_bp d : ℕ) (x : AnnotatedForest) (n : �
     }),
   )
 
-  -- the operand is the first tree of a node, and the rest of that row is read
+  -- the operand is the first tree of a node, and the rest of that node's row can be read
   abbrev WrapEnds : ℕ → SyntaxKind → Row → List Frame → List Token → Type 0
   WrapEnds other k q fs ts = RowEnds (Node k) d q x (Closes (Node k) (other_frame other blank) (EndsOn whole fs)) ts n gs
 
-  -- the node then is the operand
+  -- then that node is the operand
   wraps_on : (fs : List Frame) → AtOperand min_bp max_bp d x fs → (other : ℕ) (k : SyntaxKind) (q : Row) (ts : List Token) → IsFront (row_of_kind k)
       → after (row_of_kind k) (seen_kind x) ≡ q
       → ((c : AnnotatedForest) → first_tree (one_branch k c) ≡ first_tree c) → fits min_bp k ≡ true → WrapEnds other k q fs ts → EndsOn whole fs frame ts n gs
@@ -148,7 +148,7 @@ module _ (whole : Outcome) (min_bp max_bp d : ℕ) (x : AnnotatedForest) (n : �
           }
 
   module _ (fs : List Frame) (r : AtOperand min_bp max_bp d x fs) where
-    -- the next item makes it the first tree of a node
+    -- the next item makes the operand the first tree of a node
     wraps : (t : Token) (ts : List Token) (k : SyntaxKind) (q : Row) (z : Position) (other : ℕ) → IsFront (row_of_kind k)
         → after (row_of_kind k) (seen_kind x) ≡ q
         → ((us : List Token) → IsExpected q n us true) → IsFollowed q x (Some (leaf_kind k t)) → after q (leaf_kind k t) ≡ rest_at z
@@ -162,11 +162,11 @@ module _ (whole : Outcome) (min_bp max_bp d : ℕ) (x : AnnotatedForest) (n : �
           (open_ends whole (other_frame other blank) fs (opened (Node k) z d (x ⊕ item k t)) ts t.end gs refl ends)),
     )
 
-    -- an argument may follow it
+    -- if the operand's levels allow it, an argument may follow it
     is_called : 15 ≤ max_bp → after (row_of_kind NODE_APPLY) (seen_kind x) ≡ Argument · done
     is_called l = ap (λ w. only w (Argument · done)) (fits_looser 15 max_bp (seen_kind x) l r.grows.tight)
 
-    -- an argument follows it
+    -- an argument follows the operand
     applies : (t : Token) (ts : List Token) → after (row_of_kind NODE_APPLY) (seen_kind x) ≡ Argument · done → min_bp ≤ 15 → is_or t.kind ≡ false
         → is_fn_arg t.kind ≡ true → follows t.kind x ≡ true
         → IsPreservedBy whole a.Apply frame fs (t ∷ ts) n gs
@@ -195,7 +195,7 @@ module _ (whole : Outcome) (min_bp max_bp d : ℕ) (x : AnnotatedForest) (n : �
             (λ vs s c es i z. placed argument_takes e.read e.is_complete_operand i nor (λ v. absurd (true_is_not_false (sym v))) followed z)
             (open_ends whole under fs (called (x ⊕ e.tree)) e.remaining e.prev_end (gs ++ e.inside) refl e.ends))
 
-    -- the name `or` follows it as an argument
+    -- the name `or` follows the operand as an argument
     applies_or : (t : Token) (ts : List Token) → after (row_of_kind NODE_APPLY) (seen_kind x) ≡ Argument · done → min_bp ≤ 16 → t.kind ≡ TOKEN_OR
         → follows TOKEN_OR x ≡ true
         → IsPreservedBy whole a.ApplyOr frame fs (t ∷ ts) n gs
@@ -230,11 +230,11 @@ module _ (whole : Outcome) (min_bp max_bp d : ℕ) (x : AnnotatedForest) (n : �
         grows : MayGrow min_bp 15 (one_branch NODE_APPLY (x ⊕ name))
         grows = call_grows min_bp (x ⊕ name) (omega (arith, level, l))
 
-    -- an item of a level between the two continues it
+    -- an item whose binding power is between the two levels continues the operand's tree
     follows_it : (k j : SyntaxKind) → j ≡ k → Between min_bp max_bp k → follows j x ≡ true
     follows_it k j e w = subst (λ (j : SyntaxKind). follows j x ≡ true) (sym e) ((r.grows.follow k).0 w.0 w.2)
 
-    -- an item continues it
+    -- the step of an item that continues the operand preserves what is known
     goes : (k : SyntaxKind) (action : Action) → FollowsBy k action → (t : Token) (ts : List Token) → t.kind ≡ k → Between min_bp max_bp k
         → IsPreservedBy whole action frame fs (t ∷ ts) n gs
     goes k action by_dot t ts e w =
@@ -265,7 +265,7 @@ module _ (whole : Outcome) (min_bp max_bp d : ℕ) (x : AnnotatedForest) (n : �
         applies t ts (is_called (omega (arith, w.2, h))) (omega (arith, w.1, h)) (ap is_or e ∙ argument_no_or k h) (ap is_fn_arg e ∙ argument_is k h)
         (follows_it k t.kind e w)
 
-    -- each step at it
+    -- each step at the operand preserves what is known
     pub operand_step : (ts : List Token) → IsPreservedBy whole (more_action min_bp max_bp (head_kind ts)) frame fs ts n gs
     operand_step [] = settles fs r [] (λ j e. absurd (cc e))
     operand_step (t ∷ ts) = by (may_continue min_bp max_bp t.kind) refl

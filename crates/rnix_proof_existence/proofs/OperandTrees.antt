@@ -8,15 +8,15 @@ use Rattle.{rnix_grammar.specs.Rules.row as row_of_kind, rnix_proof_lemmas.proof
 use Rattle.rnix_proof_lemmas.proofs.{RowParts.{remaining_first_expected, operand_goes, operand_not_expected}, ReadsFrom.{inner_from, plain_from, wrong_from}}
 use Rattle.rnix_proof_existence.proofs.{Growing.seen_kind, OpenFrames.{OperandTree, a_node, an_error, IsRead, IsCompleteOperand}}
 
--- the last item of a tree is the last of its row
+-- a tree ends where its children end
 alone_end : (m n : ℕ) (c : AnnotatedForest) → m ≡ end_from n (tokens_in (one_branch NODE_LITERAL c)) → m ≡ end_from n (tokens_in c)
 alone_end m n c e = e ∙ ap (end_from n) (append-nil (tokens_in c))
 
--- an operand repeats no name
+-- an operand reports no repeated name
 pub none_repeated : (level : ℕ) (k : SyntaxKind) (b c : AnnotatedForest) (ds : List Fault) → fits level k ≡ true → ds ++ repeats k b c ≡ ds
 none_repeated level k b c ds h = ap (λ z. ds ++ z) (unreported k b c (fits_expression level k h)) ∙ append-nil ds
 
--- the row of a node begins with it
+-- the row of a node may begin with an operand
 pub first_placed : {d n m : ℕ} {x f : AnnotatedForest} {vs us : List Token} {ds es : List Fault} {k : SyntaxKind} {q r : Row} (level : ℕ)
     → IsFront (row_of_kind k)
     → OperandTree d n x vs ds → fits level (seen_kind x) ≡ true → vs ≡ tokens_in f ++ us → m ≡ end_from n (tokens_in x)
@@ -33,13 +33,13 @@ first_placed {d = d} {n = n} {vs = vs} level w (an_error {t = t}) h v u g z =
     wrong_from Stray (t ∷ []) v (w.expected n (t ∷ vs) false) (w.followed blank (Some t.kind))
     (refl, w.no_operand.room d, w.no_operand.operand blank (one_fault Stray (row_of (t ∷ []))) vs, g) u z
 
--- an operand of a level may come next in a row, and r is left after it
+-- a row accepts an operand of a level next, and `r` is the rest after it
 pub record Takes (q : Row) (level : ℕ) (r : Row) : Type 0 where
   pub leveled : (x : AnnotatedForest) → is_or_row x ≡ false → level_at q x ≡ Some level
   pub expected : (k : SyntaxKind) (c : AnnotatedForest) → is_or_row (one_branch k c) ≡ false → is_first_expected q k c ≡ false
   pub goes : (k : SyntaxKind) → fits level k ≡ true → after q k ≡ r
 
--- so it is where what is left of a row asks for one
+-- this holds if the rest of a row requires an operand
 pub left_takes : (q : Row) (level : ℕ) (r : Row) → is_remaining q ≡ true → level_at q blank ≡ Some level → after q NODE_LITERAL ≡ r → Takes q level r
 left_takes q level r i l g = record {
   leveled = λ x h. left_level q i x ∙ l;
@@ -47,11 +47,11 @@ left_takes q level r i l g = record {
   goes = λ k h. operand_goes q level k i l h ∙ g;
 }
 
--- so it is after a function that is called
+-- this holds after a function that is called
 pub argument_takes : Takes (Argument · done) 16 done
 argument_takes = record { leveled = λ x h. ap (λ w. if w then None else Some 16) h; expected = λ k c h. h; goes = λ k h. ap (λ w. only w done) h }
 
--- an operand is read in front of the rest of a row
+-- an operand is read before the rest of a row
 pub placed : {d n m level : ℕ} {b x f : AnnotatedForest} {us vs ws : List Token} {ds es : List Fault} {k : SyntaxKind} {q r s : Row} → Takes q level s
     → IsRead level (deeper q d) n ws x vs m ds → IsCompleteOperand level x vs → vs ≡ tokens_in f ++ us → IsExpected q n ws false → IsRoom q d
     → IsFollowed q b (head_kind ws)

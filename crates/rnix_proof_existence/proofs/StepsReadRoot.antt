@@ -1,4 +1,4 @@
--- What the machine of steps makes of a list of items satisfies the rules of readings.
+-- The result of the machine's steps over a list of items satisfies the rules of a reading.
 use Rattle.std.proofs.Common.{◌≡◌, ℕ, ◌+◌, false, List, [], ◌∷◌, ◌++◌, refl, ap, sym, ◌∙◌, subst, append-nil, arith}
 use Rattle.{rnix_kinds.specs.declared.kinds.SyntaxKind.TheVariants.NODE_ROOT, rnix_grammar.specs.declared.position.Position.Position}
 use Rattle.rnix_grammar.specs.{declared.{slot_table.TheConstants.ROOT, rules.Part.TheVariants.TextEnd}, Fault.Fault, AnnotatedForest.{Token, AnnotatedForest}}
@@ -8,13 +8,13 @@ use Rattle.{rnix_proof_lemmas.proofs.{AnnotatedForestLemmas.⊕-blank, OpenHeads
 use Rattle.rnix_proof_existence.proofs.{Frames.{node, operand}, OpenFrames.{Outcome, EndsAll}, NodeSteps.node_step, OperandSteps.operand_step}
 use Rattle.rnix_grammar.specs.declared.position.Position.TheVariants as p
 
--- a step keeps what is known of the frames, and if the outcome is reached after it, then also before it
+-- a step preserves what is known of the frames; if the outcome is reached after it, it is reached before it
 step : (whole : Outcome) {fs : List Frame} (ts : List Token) (n : ℕ) (gs : List Fault) → Reading fs
     → let m : Machine = step_on false fs ts n gs in Reading m.frames × (EndsAll whole m.frames m.remaining m.prev_end m.faults → EndsAll whole fs ts n gs)
 step whole ts n gs (node {f = f} {fs = fs} r) = node_step whole f n gs fs r ts
 step whole ts n gs (operand {min_bp = min_bp} {max_bp = max_bp} {d = d} {x = x} {fs = fs} r) = operand_step whole min_bp max_bp d x n gs fs r ts
 
--- so do some steps
+-- a run of steps does so too
 runs_end : (whole : Outcome) {m n : Machine} → Runs false m n → Reading m.frames → EndsAll whole n.frames n.remaining n.prev_end n.faults
     → EndsAll whole m.frames m.remaining m.prev_end m.faults
 runs_end whole rest r ends = ends
@@ -26,7 +26,7 @@ pub steps_read_root : (ts : List Token) (m : Machine) (f : Frame) → Runs false
     → (ts ≡ tokens_in f.children) × ReadsRoot f.children m.faults
 steps_read_root ts m f s e h x l = by (runs_end (f.children, m.faults) s begun ended)
   where
-    -- at the beginning of a text the root is open
+    -- before the first step the root is open
     begun : Reading (initial_machine ts).frames
     begun = node (record { is = record { sound = refl; in_row_of = refl; shallow = omega arith }; below = no_frame })
 

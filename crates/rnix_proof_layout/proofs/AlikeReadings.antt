@@ -1,4 +1,4 @@
--- Items that are alike are read as one tree, with the same errors.
+-- Items that are alike are read as the same tree, with the same errors.
 use Rattle.std.proofs.{Common.{◌≡◌, ℕ, List, [], ◌∷◌, ◌++◌, Option, Some, None, refl, ap, sym, ◌∙◌, subst}, lemmas.List.append-nil}
 use Rattle.{rnix_kinds.specs.declared.kinds.SyntaxKind.{SyntaxKind, TheVariants.NODE_ROOT}, rnix_green.specs.Range.Extent, rnix_grammar.specs.Fault.Fault}
 use Rattle.rnix_grammar.specs.{AnnotatedForest.{Token, AnnotatedForest, blank, tokens_in, forget}, declared.rules.Part.TheVariants.TextEnd, Rules.{done, ◌·◌}}
@@ -6,12 +6,12 @@ use Rattle.{rnix_grammar.specs.{Rules.row, Reads.ReadsRoot}, rnix_proof_lemmas.p
 use Rattle.rnix_proof_layout.{specs.AlikeItems.AreSameFaults, proofs.{MovedItems.{at, moved, moved_trees, tokens_moved, forget_moved}, Touch.Touching}}
 use Rattle.rnix_proof_layout.proofs.{JoinedRows.row_joins, MovedReadings.{moves, IsMoved}}
 
--- where some items stand
+-- the ranges of some items
 abbrev extents : List Token → List Extent
 extents [] = []
 extents (t ∷ ts) = record { start = t.start; end = t.end } ∷ extents ts
 
--- items that are alike are the same except for their places
+-- items that are alike are the same except for their ranges
 token_is : (t u : Token) → t.kind ≡ u.kind → t.text ≡ u.text → at t (record { start = u.start; end = u.end } ∷ []) ≡ u
 token_is t u e h = λ i. record { kind = e i; text = h i; start = u.start; end = u.end }
 
@@ -28,11 +28,11 @@ alike_touching prev n m (t ∷ ts) (u ∷ us) h = (h.2, alike_touching (Some t.k
 alike_touching prev n m [] (u ∷ us) h = absurd h
 alike_touching prev n m (t ∷ ts) [] h = absurd h
 
--- two readings of some items are one
+-- the items have only one reading
 abbrev pub OneRow : Type 0
 OneRow = (f g : AnnotatedForest) (ds es : List Fault) → ReadsRoot f ds → ReadsRoot g es → tokens_in f ≡ tokens_in g → (f ≡ g) × (ds ≡ es)
 
--- so readings of items that are alike are the same except for places
+-- so readings of items that are alike are the same except for ranges
 pub alike_readings : (one : OneRow) (f g : AnnotatedForest) (ds es : List Fault) → ReadsRoot f ds → ReadsRoot g es
     → AreAlike None 0 0 (tokens_in f) (tokens_in g)
     → (forget f ≡ forget g) × AreSameFaults (tokens_in f) (tokens_in g) ds es

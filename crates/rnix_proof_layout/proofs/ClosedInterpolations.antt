@@ -1,4 +1,4 @@
--- An interpolation that is over ends with its closing token, unless the text has ended.
+-- A complete interpolation ends with its closing token, unless the text has ended.
 use Rattle.std.proofs.Common.{◌≡◌, ℕ, true, false, List, [], ◌∷◌, ◌++◌, Option, Some, ap, sym, ◌∙◌, subst, ◌⊎◌, inl, inr}
 use Rattle.rnix_kinds.specs.declared.kinds.SyntaxKind.{SyntaxKind, TheVariants.{TOKEN_INTERPOL_START, TOKEN_INTERPOL_END, NODE_INTERPOL}}
 use Rattle.rnix_grammar.specs.{declared.rules.Part.TheVariants.{Child, Operand, Wanted}, Fault.Fault, AnnotatedForest.{Token, Note, Stray, Unwanted, Extra}}
@@ -7,13 +7,13 @@ use Rattle.{rnix_grammar.specs.Reads.{Reads, IsWrong, end, leaf, inner, missing_
 use Rattle.rnix_proof_lemmas.proofs.{Basics.{none_right, some_same, Where, where_one}, EachKind.each_kind, RowKinds.has_row, ReachableRows.is_viable}
 use Rattle.{rnix_proof_lemmas.proofs.ViableRows.{reads_viable, end_viable, reads_row, past_ends}, rnix_proof_layout.proofs.Touch.{last_kind, last_two}}
 
--- what is left of the row of an interpolation until it is closed
+-- the rests of the row of an interpolation before it is closed
 pub data IsInside : Row → Type 0 where
   at_start : IsInside (Child TOKEN_INTERPOL_START · (Operand 0 true · (Wanted TOKEN_INTERPOL_END · done)))
   at_operand : IsInside (Operand 0 true · (Wanted TOKEN_INTERPOL_END · done))
   at_end : IsInside (Wanted TOKEN_INTERPOL_END · done)
 
--- it closes with the last item, or no item is left
+-- the last item is the closing token, or no item is left
 abbrev pub Closes : List Token → List Token → Type 0
 Closes ts us = (us ≡ []) ⊎ ((prev : Option SyntaxKind) → last_kind prev ts ≡ Some TOKEN_INTERPOL_END)
 
@@ -21,7 +21,7 @@ closes_after : (xs ts us : List Token) → Closes ts us → Closes (xs ++ ts) us
 closes_after xs ts us (inl e) = inl e
 closes_after xs ts us (inr h) = inr (λ prev. last_two prev xs ts ∙ h (last_kind prev xs))
 
--- a child leads on, or closes
+-- after a child the interpolation is still open, or the child closes it
 abbrev GoesOn : Row → SyntaxKind → Type 0
 GoesOn r k = IsInside r ⊎ ((r ≡ done) × (k ≡ TOKEN_INTERPOL_END))
 
@@ -36,7 +36,7 @@ goes_on q at_operand k l = inl (where_one (is_viable (after q k)) l
 goes_on q at_end k l =
     inr (where_one (is_viable (after q k)) l (each_kind (λ k. Where (is_viable (after q k)) ((after q k ≡ done) × (k ≡ TOKEN_INTERPOL_END))) (assumption) k))
 
--- so does an error node
+-- after an error node the interpolation is still open, or no item is left
 wrong_inside : (q r : Row) → IsInside q → (note : Note) (d : ℕ) (ts us : List Token) → IsWrong note d q r ts us → is_viable r ≡ true → IsInside r ⊎ (us ≡ [])
 wrong_inside q r at_start Stray d ts us w l = dead (ap is_viable w.3 ∙ l)
 wrong_inside q r at_operand Stray d ts us w l = inl (subst IsInside w.3 at_end)
@@ -48,12 +48,12 @@ wrong_inside q r i Extra d ts us w l = inr w.1
 wrong_inside q r i DoubleBind d ts us w l = absurd w
 wrong_inside q r i TooDeep d ts us w l = inr w.0
 
--- what comes after one child or error node
+-- the interpolation closes after a child or an error node, whichever case it is
 either : (r : Row) (xs ts us : List Token) {A : Type 0} → IsInside r ⊎ A → (IsInside r → Closes ts us) → (A → Closes (xs ++ ts) us) → Closes (xs ++ ts) us
 either r xs ts us (inl j) more over = closes_after xs ts us (more j)
 either r xs ts us (inr g) more over = over g
 
--- where the row is inside at first, it is closed where it is over
+-- an interpolation that is open at first is closed when its row is complete
 pub closes : {p : SyntaxKind} {d n : ℕ} {q s : Row} {b f : AnnotatedForest} {us : List Token} {es : List Fault} → Reads p d n q s b us f es
     → p ≡ NODE_INTERPOL → IsInside q → may_end s ≡ true → Closes (tokens_in f) us
 closes end e at_start w = dead w

@@ -1,4 +1,4 @@
--- The errors of items at other places.
+-- The errors of items with other ranges.
 use Rattle.std.proofs.Common.{◌≡◌, ℕ, Bool, true, false, List, [], ◌∷◌, ◌++◌, take, drop, length, refl, ap, sym, ◌∙◌, if◌then◌else◌}
 use Rattle.{rnix_kinds.specs.declared.kinds.SyntaxKind.{SyntaxKind, TheVariants.{NODE_IDENT, NODE_PAT_ENTRY}}, rnix_green.specs.Range.Extent}
 use Rattle.rnix_grammar.specs.{Fault.{Fault, unexpected_eof, unexpected_eof_wanted, duplicated_args}, Repaired.is_ended, Reports.{first_kind, report, repeats}}
@@ -18,7 +18,7 @@ middle_moved [] [] us qs = refl
 middle_moved [] (t ∷ ts) us qs = ap (λ z. at t qs ∷ z) (middle_moved [] ts us (later qs))
 middle_moved (x ∷ a) ts us qs = middle_moved a ts us (later qs)
 
--- the ranges of some items at both places
+-- some items have the ranges of the same items, in the old and in the new ranges
 pub same_here : (ws a ts us : List Token) (qs : List Extent) → ws ≡ a ++ (ts ++ us)
     → AreOfSameItems ws (moved ws qs) (extent_of ts) (extent_of (moved ts (past a qs)))
 same_here ws a ts us qs e = record {
@@ -28,7 +28,7 @@ same_here ws a ts us qs e = record {
   there = ap extent_of (sym (ap (λ z. take (length ts) (drop (length a) (moved z qs))) e ∙ middle_moved a ts us qs));
 }
 
--- the error of an error node
+-- the first item of an error node has the same kind
 first_moved : (ts : List Token) (ps : List Extent) → first_kind ts ≡ first_kind (moved ts ps)
 first_moved [] ps = refl
 first_moved (t ∷ ts) ps = refl
@@ -41,13 +41,13 @@ report_same xs ys Extra ts ps h = h
 report_same xs ys DoubleBind ts ps h = h
 report_same xs ys TooDeep ts ps h = tt
 
--- the errors at the end of the text
+-- an error at the end of the text is the same
 pub ended_same : (xs ys : List Token) (e : Fault) → is_ended e ≡ true → IsSameFault xs ys e e
 ended_same xs ys unexpected_eof h = tt
 ended_same xs ys (unexpected_eof_wanted kinds) h = refl
 ended_same xs ys _ h = absurd (true_is_not_false (sym h))
 
--- errors one after another
+-- if two pairs of lists of errors are the same, so are the joined lists
 pub same_append : (xs ys : List Token) (ds es gs hs : List Fault) → AreSameFaults xs ys ds es → AreSameFaults xs ys gs hs
     → AreSameFaults xs ys (ds ++ gs) (es ++ hs)
 same_append xs ys [] [] gs hs h g = g
@@ -55,7 +55,7 @@ same_append xs ys (d ∷ ds) (e ∷ es) gs hs h g = (h.0, same_append xs ys ds e
 same_append xs ys [] (e ∷ es) gs hs h g = absurd h
 same_append xs ys (d ∷ ds) [] gs hs h g = absurd h
 
--- the names of the entries of a pattern do not depend on places
+-- the names of the entries of a pattern do not depend on ranges
 name_same : (name : List ℕ) (c : AnnotatedForest) → is_same_name name (entry_name (unplaced c)) ≡ is_same_name name (entry_name c)
 name_same name blank = refl
 name_same name (token k t f) = refl
@@ -75,7 +75,7 @@ entry_same name (branch NODE_PAT_ENTRY c f) =
 entry_same name (branch _ c f) = entry_same name f
 entry_same name (fault n c f) = entry_same name f
 
--- the error of an entry that repeats a name
+-- the error of an entry that repeats a name is the same
 one_if : (xs ys : List Token) (v w : Bool) (d e : Fault) → v ≡ w → IsSameFault xs ys d e
     → AreSameFaults xs ys (if v then d ∷ [] else []) (if w then e ∷ [] else [])
 one_if xs ys true true d e h g = (g, tt)

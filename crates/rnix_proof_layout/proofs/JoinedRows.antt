@@ -1,4 +1,4 @@
--- Where a row asks whether the next item touches, the item before is in a path, or no item is left.
+-- If whether the next item touches matters to a row, the item before is in a path, or no item is left.
 use Rattle.std.proofs.Common.{◌≡◌, ℕ, Bool, true, false, List, ◌∷◌, Option, Some, None, refl, ap, sym, ◌∙◌, subst, inl, inr, ◌||◌, nat_eq, if◌then◌else◌}
 use Rattle.{std.proofs.lemmas.Bool.and_parts, rnix_kinds.specs.declared.kinds.SyntaxKind.{SyntaxKind, TheVariants.{NODE_IDENT, NODE_CUR_POS, NODE_INTERPOL}}}
 use Rattle.rnix_kinds.{specs.declared.kinds.SyntaxKind.TheVariants.{NODE_LITERAL, TOKEN_INTERPOL_END}, proofs.AllKinds.{every, implied}}
@@ -12,11 +12,11 @@ use Rattle.rnix_proof_layout.proofs.{Touch.{asks_touch, Joins, last_kind}, Moves
 dead : {A : Type 0} → false ≡ true → A
 dead h = absurd (true_is_not_false (sym h))
 
--- a row that does not ask
+-- this holds for a row to which it does not matter
 pub no_joins : (q : Row) (prev : Option SyntaxKind) (ts : List Token) → asks_touch q ≡ false → Joins q prev ts
 no_joins q prev ts e = inr (λ a. dead (sym e ∙ a))
 
--- no row begins so
+-- it does not matter to any row at its beginning
 pub row_joins : (k : SyntaxKind) (prev : Option SyntaxKind) (ts : List Token) → Joins (row k) prev ts
 row_joins k prev ts = no_joins (row k) prev ts (not_if (asks_touch (row k)) (every (λ k. if asks_touch (row k) then false else true) refl k))
 
@@ -36,7 +36,7 @@ interpol_leaf NODE_IDENT = refl
 interpol_leaf NODE_CUR_POS = refl
 interpol_leaf _ = refl
 
--- where an interpolation leads to such a row, no item of its kind is expected
+-- if an interpolation leads to such a row, no item of an interpolation's kind is expected there
 abbrev refuses : Row → Bool
 refuses (PathPieces · r) = true
 refuses (EndOr kind · r) = if same_kind (opening kind) NODE_INTERPOL then false else true
@@ -57,7 +57,7 @@ one_piece : (v w z : Bool) → (v || w) ≡ true → (w ≡ true → ⊥) → (v
 one_piece true w z h n = refl
 one_piece false w z h n = absurd (n h)
 
--- after a leaf
+-- this holds after a leaf
 pub leaf_joins : {i : SyntaxKind} {q : Row} → IsKnown i q → (n : ℕ) (t : Token) (ts us : List Token) → IsExpected q n (t ∷ ts) true
     → Joins (after q (leaf_kind i t)) (Some t.kind) us
 leaf_joins {i} {q} known n t ts us x =
@@ -68,7 +68,7 @@ leaf_joins {i} {q} known n t ts us x =
     no_token e a =
         refused q n t ts e x (interpol_refused known (subst (λ k. asks_touch (after q k) ≡ true) (ap (leaf_kind_as i) e ∙ interpol_leaf i) a))
 
--- the only node after which a row asks is an interpolation
+-- the only node after which it matters is an interpolation
 node_piece : (k : SyntaxKind) → has_row k ≡ true → (is_path_piece k || same_kind NODE_INTERPOL k) ≡ true → k ≡ NODE_INTERPOL
 node_piece k h s =
     sym ((same_kind-decides NODE_INTERPOL k).0
@@ -76,7 +76,7 @@ node_piece k h s =
     (subst (λ v. (if v then (if is_path_piece k || same_kind NODE_INTERPOL k then same_kind NODE_INTERPOL k else true) else true) ≡ true) h
     (every (λ k. if has_row k then (if is_path_piece k || same_kind NODE_INTERPOL k then same_kind NODE_INTERPOL k else true) else true) refl k))))
 
--- after a node
+-- this holds after a node
 pub node_joins : {i k : SyntaxKind} {d n : ℕ} {q s : Row} {b c : AnnotatedForest} {us : List Token} {es : List Fault} → IsKnown i q
     → Reads k d n (row k) s b us c es → may_end s ≡ true → (prev : Option SyntaxKind) → Joins (after q k) (last_kind prev (tokens_in c)) us
 node_joins {i} {k} {q = q} {c = c} {us = us} known h w prev = by (asks_touch (after q k)) refl
@@ -91,7 +91,7 @@ node_joins {i} {k} {q = q} {c = c} {us = us} known h w prev = by (asks_touch (af
         let same : k ≡ NODE_INTERPOL = node_piece k (reads_row h w) (joined i q known k e) in
         closed (closes h same (subst (λ (k : SyntaxKind). IsInside (row k)) (sym same) at_start) w)
 
--- after an error node
+-- this holds after an error node
 abbrev no_touch : {A : Type 0} → Option (A × Row) → Bool
 no_touch None = true
 no_touch (Some w) = if asks_touch w.1 then false else true

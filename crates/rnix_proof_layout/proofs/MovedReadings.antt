@@ -1,4 +1,4 @@
--- A reading of some items is one of the same items at other places, with the same errors, if they touch alike inside paths.
+-- A reading of some items is one of the same items with other ranges, with the same errors, if the items touch alike inside paths.
 use Rattle.std.proofs.Common.{◌≡◌, ℕ, true, false, List, [], ◌∷◌, ◌++◌, Option, Some, refl, ap, sym, ◌∙◌, subst, inl, append_assoc}
 use Rattle.{rnix_kinds.specs.declared.kinds.SyntaxKind.{SyntaxKind, TheVariants.NODE_ERROR}, rnix_green.specs.Range.Extent, rnix_grammar.specs.Fault.Fault}
 use Rattle.rnix_grammar.specs.{Reports.{report, repeats}, AnnotatedForest.{Token, Note, DoubleBind, AnnotatedForest, blank, token, branch, fault, ◌⊕◌}}
@@ -13,7 +13,7 @@ use Rattle.rnix_proof_layout.proofs.{Unplaced.{first_expected_same, followed_sam
 use Rattle.rnix_proof_layout.proofs.{Moves.{operand_at, wrong_same}, Faults.{same_here, report_same, ended_same, same_append, repeats_same}}
 use Rattle.rnix_proof_layout.proofs.JoinedRows.{no_joins, row_joins, leaf_joins, node_joins, wrong_joins}
 
--- the items are read so at the other places, some of all items
+-- the items are read in the same way with other ranges, as a part of all items
 pub record IsMoved (ws : List Token) (qs ps : List Extent) (p : SyntaxKind) (d m : ℕ) (q q' : Row) (prev : Option SyntaxKind) (b : AnnotatedForest)
     (us : List Token) (f : AnnotatedForest)
     (es : List Fault) : Type 0 where
@@ -25,11 +25,11 @@ pub record IsMoved (ws : List Token) (qs ps : List Extent) (p : SyntaxKind) (d m
 unplaced_next : (b c x y : AnnotatedForest) → unplaced b ≡ unplaced c → unplaced x ≡ unplaced y → unplaced (b ⊕ x) ≡ unplaced (c ⊕ y)
 unplaced_next b c x y e h = unplaced-⊕ b x ∙ ap (λ z. z ⊕ unplaced x) e ∙ ap (λ z. unplaced c ⊕ z) h ∙ sym (unplaced-⊕ c y)
 
--- the places of what follows some items
+-- the ranges that remain after some items, as a part of all ranges
 extents_after : (a xs : List Token) (ps qs : List Extent) → ps ≡ past a qs → past xs ps ≡ past (a ++ xs) qs
 extents_after a xs ps qs e = ap (past xs) e ∙ sym (past_two a xs qs)
 
--- an item
+-- an item is read in the same way
 moved_leaf : {p : SyntaxKind} {d m : ℕ} {q q' : Row} {c : AnnotatedForest} {us : List Token} {t : Token} {f : AnnotatedForest} {es : List Fault}
     (ws : List Token) (qs ps : List Extent) (prev : Option SyntaxKind) (n : ℕ) (b : AnnotatedForest) → unplaced b ≡ unplaced c
     → Joins q prev (t ∷ (tokens_in f ++ us))
@@ -47,26 +47,26 @@ moved_leaf {p} {m = m} {q = q} {c = c} {us = us} {t = t} {f = f} ws qs ps prev n
   joins = r.joins;
 }
 
--- a row that is over
+-- a row that may end before some items may end before them with other ranges
 over_same : (s : Row) (prev : Option SyntaxKind) (n m : ℕ) (us : List Token) (f : AnnotatedForest) (ps : List Extent) → Joins s prev (tokens_in f ++ us)
     → Touching prev n m (tokens_in f ++ us) ps
     → IsOver s n (tokens_in f ++ us) → IsOver s m (tokens_in (moved_trees f ps) ++ moved us (past (tokens_in f) ps))
 over_same s prev n m us f ps j touch h =
     (h.0, subst (λ z. IsExpected s m z false) (tokens_after f us ps) (expected_same s prev n m (tokens_in f ++ us) ps false j touch h.1))
 
--- two forests and what follows
+-- two forests and the items after them, with other ranges
 both_after : (c f : AnnotatedForest) (us : List Token) (ps : List Extent) → moved (tokens_in c ++ (tokens_in f ++ us)) ps
     ≡ tokens_in (moved_trees c ps) ++ (tokens_in (moved_trees f (past (tokens_in c) ps)) ++ moved us (past (tokens_in f) (past (tokens_in c) ps)))
 both_after c f us ps = tokens_after c (tokens_in f ++ us) ps ∙ ap (λ z. tokens_in (moved_trees c ps) ++ z) (tokens_after f us (past (tokens_in c) ps))
 
--- where the items after a node touch
+-- the items after a node touch alike if the node's items and they do
 touching_node : (prev : Option SyntaxKind) (n m : ℕ) (c : AnnotatedForest) (us : List Token) (ps : List Extent) → Touching prev n m (tokens_in c ++ us) ps
     → Touching (last_kind prev (tokens_in c)) (end_from n (tokens_in c)) (end_from m (tokens_in (moved_trees c ps))) us (past (tokens_in c) ps)
 touching_node prev n m c us ps h =
     subst (λ z. Touching (last_kind prev (tokens_in c)) (end_from n (tokens_in c)) (end_from m z) us (past (tokens_in c) ps)) (sym (tokens_moved c ps))
     (touching_after prev n m (tokens_in c) us ps h)
 
--- an operand
+-- an operand is one with other ranges
 operand_moved : (q : Row) (k : SyntaxKind) (c f : AnnotatedForest) (us : List Token) (ps : List Extent)
     → IsOperandOf (level_at q (one_branch k c)) (one_branch k c) (tokens_in f ++ us)
     → IsOperandOf (level_at q (one_branch k (moved_trees c ps))) (one_branch k (moved_trees c ps))
@@ -76,7 +76,7 @@ operand_moved q k c f us ps h =
     (ap (moved (tokens_in f ++ us)) (past_two (tokens_in c) [] ps) ∙ tokens_after f us (past (tokens_in c) ps))
     (operand_at q (one_branch k c) (tokens_in f ++ us) ps h)
 
--- the rest of a row, seen from the row
+-- the ranges after the rest of a row, from the row's first item on
 rest_extents : {p : SyntaxKind} {d m : ℕ} {q q' : Row} {b g : AnnotatedForest} {es : List Fault} (us xs ys : List Token) (ps : List Extent)
     → Reads p d m q q' b (moved us (past ys (past xs ps))) g es → Reads p d m q q' b (moved us (past (xs ++ ys) ps)) g es
 rest_extents {p} {d} {m} {q} {q'} {b} {g} {es} us xs ys ps h = subst (λ z. Reads p d m q q' b (moved us z) g es) (sym (past_two xs ys ps)) h
@@ -85,7 +85,7 @@ rest_joins : (q : Row) (prev : Option SyntaxKind) (xs ys us : List Token) → Jo
     → Joins q (last_kind prev (xs ++ ys)) us
 rest_joins q prev xs ys us j = subst (λ z. Joins q z us) (sym (last_two prev xs ys)) j
 
--- an error node over the items at the other places
+-- an error node is read in the same way
 wrong_extents : {p : SyntaxKind} {d m : ℕ} {q q' : Row} {b : AnnotatedForest} {es : List Fault} (note : Note) (ts : List Token) (f : AnnotatedForest)
     (us : List Token) (ps : List Extent)
     → Reads p d m q q' b (moved us (past (tokens_in f) (past ts ps))) (fault note (row_of (moved ts ps)) (moved_trees f (past ts ps))) es

@@ -1,4 +1,4 @@
--- A reading of some items is one of the same items at other places, if they touch alike inside paths.
+-- The rules of a reading hold of items with other ranges, if the items touch alike inside paths.
 use Rattle.std.proofs.Common.{◌≡◌, ℕ, ◌≤◌, Bool, true, List, [], ◌∷◌, ◌++◌, Option, Some, None, refl, ap, sym, ◌∙◌, subst, if◌then◌else◌, ◌&&◌, ◌||◌, nat_le}
 use Rattle.{std.specs.List.list_all, rnix_kinds.{specs.declared.kinds.SyntaxKind.{SyntaxKind, TheVariants.NODE_INTERPOL}, proofs.AllKinds.{all_kinds, every}}}
 use Rattle.{rnix_green.specs.{Range.Extent, Equality.same_kind}, rnix_grammar.specs.{UnwantedRun.run_of, AnnotatedForest.{Token, Note, Stray, Unwanted, Extra}}}
@@ -9,7 +9,7 @@ use Rattle.{rnix_proof_lemmas.proofs.ReachableRows.{IsKnown, every_known}, rnix_
 use Rattle.rnix_proof_layout.proofs.{MovedItems.{tokens_after, row_moved, head_moved, second_moved, length_moved, some_moved, run_moved}, Unplaced.unplaced}
 use Rattle.rnix_proof_layout.proofs.{Unplaced.{unplaced_moved, alike, row_level_same, first_same, follows_same, asked_same}, Touch.asks_touch}
 
--- the next item continues a tree, at other places
+-- whether the next item continues a tree does not depend on ranges
 goes_same : (level : ℕ) (x y : AnnotatedForest) (ts : List Token) (ps : List Extent) → unplaced x ≡ unplaced y
     → is_continued level x ts ≡ is_continued level y (moved ts ps)
 goes_same level x y [] ps e = refl
@@ -22,7 +22,7 @@ begins_same level x y (t ∷ ts) ps e h =
     ap (λ next. first_kind level t.kind t.text next (second_kind (moved ts (later ps)))) (head_moved ts (later ps))
     ∙ ap (λ third. first_kind level t.kind t.text (head_kind ts) third) (second_moved ts (later ps)) ∙ h ∙ alike first_tree first_same x y e
 
--- an operand before others
+-- whether a tree is an operand before some items does not depend on ranges
 operand_same : (asked : Option ℕ) (x : AnnotatedForest) (us : List Token) (ps : List Extent) → IsOperandOf asked x us
     → IsOperandOf asked (moved_trees x ps) (moved us (past (tokens_in x) ps))
 operand_same None x us ps h = tt
@@ -33,7 +33,7 @@ operand_same (Some level) x us ps h = (
   sym (goes_same level x (moved_trees x ps) us (past (tokens_in x) ps) (sym (unplaced_moved x ps))) ∙ h.2,
 )
 
--- at a position of a row
+-- the same at a position of a row
 pub operand_at : (q : Row) (x : AnnotatedForest) (us : List Token) (ps : List Extent) → IsOperandOf (level_at q x) x us
     → IsOperandOf (level_at q (moved_trees x ps)) (moved_trees x ps) (moved us (past (tokens_in x) ps))
 operand_at q x us ps h =
@@ -41,7 +41,7 @@ operand_at q x us ps h =
     (alike (level_at q) (asked_same q) x (moved_trees x ps) (sym (unplaced_moved x ps)))
     (operand_same (level_at q x) x us ps h)
 
--- an error node
+-- the rules for error nodes do not depend on ranges
 pub wrong_same : (note : Note) (d : ℕ) (q r : Row) (ts us : List Token) (ps : List Extent) → IsWrong note d q r ts us
     → IsWrong note d q r (moved ts ps) (moved us (past ts ps))
 wrong_same Stray d q r ts us ps h = (
@@ -62,7 +62,7 @@ wrong_same Extra d q r ts us ps h = (some_moved ts ps ∙ h.0, ap (λ xs. moved 
 wrong_same DoubleBind d q r ts us ps h = absurd h
 wrong_same TooDeep d q r ts us ps h = (ap (λ xs. moved xs (past ts ps)) h.0, h.1, h.2, h.3)
 
--- a row where it counts whether an item touches begins after an item of a path, or after an interpolation
+-- a row to which it matters whether an item touches begins after a piece of a path, or after an interpolation
 abbrev is_joined : SyntaxKind → Row → Bool
 is_joined i q = list_all (λ k. if asks_touch (after q k) then is_path_piece k || same_kind NODE_INTERPOL k else true) all_kinds
 

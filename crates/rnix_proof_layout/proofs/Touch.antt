@@ -1,11 +1,11 @@
--- Where it counts whether an item touches the one before: inside paths.
+-- It matters whether an item touches the one before it only inside paths.
 use Rattle.std.proofs.Common.{◌≡◌, ℕ, Bool, true, false, List, [], ◌∷◌, ◌++◌, Option, Some, refl, ap, sym, ◌∙◌, ◌⊎◌, inl, inr, ◌&&◌, ◌||◌, nat_eq}
 use Rattle.{rnix_kinds.specs.declared.kinds.SyntaxKind.SyntaxKind, rnix_green.specs.{Range.Extent, Equality.same_kind}}
 use Rattle.rnix_grammar.specs.{declared.rules.Part.TheVariants.{Child, Atom, First, Suffix, Binary, Names, Optional, PathPieces}, TokenKinds.is_piece_start}
 use Rattle.rnix_grammar.specs.{AnnotatedForest.{Token, end_from}, Rules.{Row, ◌·◌, ◌or◌, begins_attr, opening, expects_item, expects, IsExpected}}
 use Rattle.{rnix_proof_lemmas.proofs.Basics.not_nil, rnix_proof_layout.{proofs.MovedItems.{at, moved, past, later}, specs.AlikeItems.{is_in_path, may_join}}}
 
--- items touch those before at the old and the new places alike, where it counts
+-- where it matters, items touch the ones before them with the old ranges exactly if they do with the new ones
 abbrev pub Touching : Option SyntaxKind → ℕ → ℕ → List Token → List Extent → Type 0
 Touching prev n m [] ps = Unit {0}
 Touching prev n m (t ∷ ts) ps = (may_join prev t.kind ≡ true → nat_eq t.start n ≡ nat_eq (at t ps).start m)
@@ -16,7 +16,7 @@ abbrev pub last_kind : Option SyntaxKind → List Token → Option SyntaxKind
 last_kind prev [] = prev
 last_kind prev (t ∷ ts) = last_kind (Some t.kind) ts
 
--- the items after some
+-- the same from a later item on
 pub touching_after : (prev : Option SyntaxKind) (n m : ℕ) (ts us : List Token) (ps : List Extent)
     → Touching prev n m (ts ++ us) ps → Touching (last_kind prev ts) (end_from n ts) (end_from m (moved ts ps)) us (past ts ps)
 touching_after prev n m [] us ps h = h
@@ -26,14 +26,14 @@ pub last_two : (prev : Option SyntaxKind) (ts us : List Token) → last_kind pre
 last_two prev [] us = refl
 last_two prev (t ∷ ts) us = last_two (Some t.kind) ts us
 
--- a row where it counts whether the next item touches
+-- it matters to the row whether the next item touches
 abbrev pub asks_touch : Row → Bool
 asks_touch (PathPieces · r) = true
 asks_touch (Names · r) = asks_touch r
 asks_touch (Optional kind · r) = asks_touch r
 asks_touch r = false
 
--- there a path continues, or no item is left
+-- if it matters, a path may continue here, or no item is left
 abbrev pub Joins : Row → Option SyntaxKind → List Token → Type 0
 Joins q prev ts = (ts ≡ []) ⊎ (asks_touch q ≡ true → is_in_path prev ≡ true)
 
@@ -50,7 +50,7 @@ item_same (Names · r) a b k h = ap (λ w. begins_attr k || w) (item_same r a b 
 item_same (Optional kind · r) a b k h = ap (λ w. same_kind (opening kind) k || w) (item_same r a b k h)
 item_same q a b k h = refl
 
--- so whether the next item is expected is the same at both places
+-- so whether the next item is expected does not depend on the ranges
 expects_same : (q : Row) (prev : Option SyntaxKind) (n m : ℕ) (ts : List Token) (ps : List Extent) → Joins q prev ts → Touching prev n m ts ps
     → expects q n ts ≡ expects q m (moved ts ps)
 expects_same q prev n m [] ps j h = refl

@@ -1,4 +1,4 @@
--- Trees without the ranges of their tokens: what a reading asks of trees does not depend on ranges.
+-- Trees without the ranges of their tokens: the rules of a reading do not depend on the ranges in trees.
 use Rattle.std.proofs.Common.{◌≡◌, ℕ, List, Option, Some, None, refl, ap, sym, ◌∙◌, if◌then◌else◌, ◌&&◌, ◌||◌}
 use Rattle.{rnix_kinds.specs.{declared.kinds.SyntaxKind.{SyntaxKind, TheVariants.NODE_LAMBDA}, SyntaxKind.is_fn_arg}, rnix_green.specs.Range.Extent}
 use Rattle.rnix_grammar.specs.{AnnotatedForest.{Token, AnnotatedForest, blank, token, branch, fault, ◌⊕◌, one_branch, tokens_in}, TreeLevels.operator_in}
@@ -7,11 +7,11 @@ use Rattle.rnix_grammar.specs.{declared.rules.Part.TheVariants.{Suffix, Binary, 
 use Rattle.{rnix_grammar.specs.{Rules.IsFollowed, Levels.binding_power}, rnix_proof_lemmas.proofs.EachKind.each_kind}
 use Rattle.rnix_proof_layout.proofs.MovedItems.{moved_trees, later, past}
 
--- a token at no place
+-- a token without its range
 abbrev pub unplaced_token : Token → Token
 unplaced_token t = record { kind = t.kind; text = t.text; start = 0; end = 0 }
 
--- trees with such tokens
+-- trees whose tokens have no ranges
 abbrev pub unplaced : AnnotatedForest → AnnotatedForest
 unplaced blank = blank
 unplaced (token k t f) = token k (unplaced_token t) (unplaced f)
@@ -24,7 +24,7 @@ unplaced-⊕ (token k t f) g = ap (λ x. token k (unplaced_token t) x) (unplaced
 unplaced-⊕ (branch k c f) g = ap (λ x. branch k (unplaced c) x) (unplaced-⊕ f g)
 unplaced-⊕ (fault n c f) g = ap (λ x. fault n (unplaced c) x) (unplaced-⊕ f g)
 
--- moved trees are the same except for places
+-- trees with other ranges are the same without ranges
 pub unplaced_moved : (f : AnnotatedForest) (ps : List Extent) → unplaced (moved_trees f ps) ≡ unplaced f
 unplaced_moved blank ps = refl
 unplaced_moved (token k t f) ps = ap (λ x. token k (unplaced_token t) x) (unplaced_moved f (later ps))
@@ -35,7 +35,7 @@ unplaced_moved (fault n c f) ps =
     ap (λ x. fault n x (unplaced (moved_trees f (past (tokens_in c) ps)))) (unplaced_moved c ps)
     ∙ ap (λ x. fault n (unplaced c) x) (unplaced_moved f (past (tokens_in c) ps))
 
--- what is the same of trees and of trees without ranges is the same of trees that differ in ranges alone
+-- a function that does not depend on ranges has equal values for trees that are the same without ranges
 pub alike : {A : Type 0} (F : AnnotatedForest → A) → ((x : AnnotatedForest) → F (unplaced x) ≡ F x) → (x y : AnnotatedForest) → unplaced x ≡ unplaced y
     → F x ≡ F y
 alike F h x y e = sym (h x) ∙ ap F e ∙ h y
@@ -92,7 +92,7 @@ atom_row_same (token k t f) = refl
 atom_row_same (branch k c f) = refl
 atom_row_same (fault n c f) = refl
 
--- the first tree of an operand
+-- the first tree of an operand does not depend on ranges
 lambda_same : (c f : AnnotatedForest) → first_tree (branch NODE_LAMBDA (unplaced c) (unplaced f)) ≡ first_tree (branch NODE_LAMBDA c f)
 lambda_same blank f = refl
 lambda_same (token k t g) f = refl
@@ -109,11 +109,11 @@ first_same (token k t f) = refl
 first_same (branch k c f) = first_in k c f (first_same c)
 first_same (fault n c f) = refl
 
--- what may follow a tree
+-- what may follow a tree does not depend on ranges
 pub follows_same : (k : SyntaxKind) (x : AnnotatedForest) → follows k (unplaced x) ≡ follows k x
 follows_same k x = rw (row_level_same x, atom_row_same x) refl
 
--- what stands where its first item is expected, and the level that is asked of an operand
+-- whether a node's first item is expected, and the level that an operand must have, do not depend on ranges
 pub first_expected_same : (q : Row) (k : SyntaxKind) (c : AnnotatedForest) → is_first_expected q k (unplaced c) ≡ is_first_expected q k c
 first_expected_same (Argument · r) k c = or_row (one_branch k c)
 first_expected_same q k c = refl
@@ -122,7 +122,7 @@ pub asked_same : (q : Row) (x : AnnotatedForest) → level_at q (unplaced x) ≡
 asked_same (Argument · r) x = ap (λ w. if w then None else Some 16) (or_row x)
 asked_same q x = refl
 
--- what the first tree of an operator, a call or a selection is followed by
+-- what may follow the first tree of an operation, a call or a selection does not depend on ranges
 pub followed_same : (q : Row) (x y : AnnotatedForest) (next : Option SyntaxKind) → unplaced x ≡ unplaced y → IsFollowed q x next → IsFollowed q y next
 followed_same (Suffix kind · r) x y (Some k) e h = sym (alike (follows k) (follows_same k) x y e) ∙ h
 followed_same (Binary · r) x y (Some k) e h = sym (alike (follows k) (follows_same k) x y e) ∙ h

@@ -1,4 +1,4 @@
--- What is done at each position of a row, by the next item, is what the rules allow there. This is one table, with a line for each action.
+-- The reader's action at each position of a row, for each next item, is one that the rules allow. This is one table, with a line for each action.
 use Rattle.std.proofs.Common.{◌≡◌, ℕ, Bool, true, false, [], Option, Some, None, refl, sym, ap, subst, take, drop}
 use Rattle.rnix_kinds.proofs.AllKinds.{all_kinds}
 use Rattle.rnix_kinds.specs.declared.kinds.SyntaxKind.{SyntaxKind, TheVariants.{NODE_IDENT, NODE_LITERAL, NODE_PAT_ENTRY, TOKEN_IDENT, TOKEN_AT}}
@@ -10,7 +10,7 @@ use Rattle.rnix_proof_lemmas.proofs.{EachKind.{Each, each_kind}, EachIndex.{Each
 use Rattle.rnix_grammar.specs.declared.position.Position.TheVariants as p
 use Rattle.rnix_grammar.specs.declared.action.Action.TheVariants as a
 
--- a node of a kind that is no operand may be here, and s is left after it
+-- a node of a kind that is no operand may be read here, and `s` is the rest of the row after it
 abbrev pub IsNodeHere : Row → Bool → Option SyntaxKind → SyntaxKind → Row → Type 0
 IsNodeHere r touch next k s = (counts r ≡ false) × (level_at r blank ≡ None) × (expects_next r touch next ≡ is_first_expected r k blank) × (after r k ≡ s)
 
@@ -18,16 +18,16 @@ IsNodeHere r touch next k s = (counts r ≡ false) × (level_at r blank ≡ None
 abbrev pub MayEnd : Row → Bool → Option SyntaxKind → Type 0
 MayEnd r touch next = (may_end r ≡ true) × (expects_next r touch next ≡ false)
 
--- this is reported here where the text ends, and s is left
+-- at the end of the text this error is reported here, and `s` is the rest of the row
 abbrev pub IsMissing : Row → Fault → Row → Type 0
 IsMissing r e s = (missing r ≡ Some (e, s)) × (expects_end r ≡ true)
 
--- an operand of a level, counted or not, is read here, and s is left after it
+-- an operand of a level, counted or not, is read here, and `s` is the rest of the row after it
 abbrev pub IsOperandHere : Row → Bool → Option SyntaxKind → ℕ → Bool → Row → Type 0
 IsOperandHere r touch next level counted s =
     (level_at r blank ≡ Some level) × (counts r ≡ counted) × (expects_next r touch next ≡ false) × (after r NODE_LITERAL ≡ s)
 
--- what is left of a row, whether the next item touches the one before, the next item, and what is done: this is allowed
+-- with this rest of the row and this next item, which touches the one before it or not, the rules allow the action
 abbrev pub IsActionAt : Row → Bool → Option SyntaxKind → Action → Type 0
 IsActionAt r touch next a.Close = MayEnd r touch next
 IsActionAt r touch next a.ClosePattern = MayEnd r touch next
@@ -52,18 +52,18 @@ IsActionAt r touch None (a.Read level counted y) = IsOperandHere r touch None le
 IsActionAt r touch next (a.Read level counted y) = IsOperandHere r touch next level counted (remaining_at y)
 IsActionAt r touch next action = ⊥
 
--- what is left at a position where a node is open
+-- the rest of the row at a position where a node is open
 abbrev pub is_waiting : Row → Bool
 is_waiting never = false
 is_waiting r = is_remaining r
 
--- a position of a row: not after an operand
+-- a position in a row, that is, not after an operand
 abbrev pub is_in_row : Position → Bool
 is_in_row (p.InRow i) = is_waiting (remaining_at i)
 is_in_row (p.AfterOperand min_bp max_bp) = false
 is_in_row (p.Right level) = true
 
--- so it is, where a node is open
+-- a statement that must hold only where a node is open
 abbrev IfWaiting : Bool → Type 0 → Type 0
 IfWaiting true A = A
 IfWaiting false A = Unit {0}
@@ -72,11 +72,11 @@ if_waiting : (w : Bool) (A : Type 0) → w ≡ true → IfWaiting w A → A
 if_waiting true A e h = h
 if_waiting false A e h = absurd (true_is_not_false (sym e))
 
--- nothing is open past the end of the table
+-- past the end of the table no node is open, so there is nothing to show
 past_end : (A : ℕ → Type 0) (i : ℕ) → drop i SLOTS ≡ [] → IfWaiting (is_waiting (remaining_at i)) (A i)
 past_end A i d = subst (λ w. IfWaiting w (A i)) (sym (ap (λ ss. is_waiting (remaining_in ss)) d)) tt
 
--- at the end of the text
+-- the action at an index is allowed at the end of the text
 abbrev AtEnd : Bool → ℕ → Type 0
 AtEnd touch i = IfWaiting (is_waiting (remaining_at i)) (IsActionAt (remaining_at i) touch None (action_at_slot i None touch))
 
@@ -84,12 +84,12 @@ at_end : (touch : Bool) (i : ℕ) → AtEnd touch i
 at_end true = each_index (AtEnd true) (assumption) (λ i e d. past_end (λ i. IsActionAt (remaining_at i) true None (action_at_slot i None true)) i d)
 at_end false = each_index (AtEnd false) (assumption) (λ i e d. past_end (λ i. IsActionAt (remaining_at i) false None (action_at_slot i None false)) i d)
 
--- and before an item
+-- the action at an index is allowed before each item
 abbrev BeforeItem : Bool → ℕ → Type 0
 BeforeItem touch i = IfWaiting (is_waiting (remaining_at i))
     (Each (λ k. IsActionAt (remaining_at i) touch (Some k) (action_at_slot i (Some k) touch)) all_kinds)
 
--- computed for some indices at a time
+-- checked by computation, for some indices at a time
 before_0 : (touch : Bool) → EachSlot (BeforeItem touch) (take 15 SLOTS)
 before_0 touch = assumption
 
@@ -121,7 +121,7 @@ before_item : (touch : Bool) (i : ℕ) → BeforeItem touch i
 before_item touch = each_index (BeforeItem touch) (before_each touch)
     (λ i e d. past_end (λ i. Each (λ k. IsActionAt (remaining_at i) touch (Some k) (action_at_slot i (Some k) touch)) all_kinds) i d)
 
--- so it is at each position of a row
+-- at each position of a row the reader's action is allowed
 pub action_is_at : (x : Position) (touch : Bool) (next : Option SyntaxKind) → is_in_row x ≡ true → IsActionAt (rest_at x) touch next (action_at x next touch)
 action_is_at (p.AfterOperand min_bp max_bp) touch next h = absurd (cc)
 action_is_at (p.Right level) touch None h = ((refl, refl, refl, ap (λ w. only w done) (atom_fits level NODE_LITERAL refl)), refl)

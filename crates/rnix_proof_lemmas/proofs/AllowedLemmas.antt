@@ -1,4 +1,4 @@
--- The grammar's tables do what is allowed.
+-- The actions in the grammar's tables are allowed at their positions.
 use Rattle.std.proofs.Common.{◌≡◌, ℕ, ◌+◌, Bool, true, false, [], ◌∷◌, Option, Some, None, refl, sym, ap, subst, arith, nat_le, if◌then◌else◌, ◌||◌, ◌∙◌}
 use Rattle.std.specs.{Prelude.drop, List.list_any}
 use Rattle.rnix_kinds.specs.declared.kinds.SyntaxKind.{SyntaxKind, TheVariants.{TOKEN_INHERIT, TOKEN_OR, TOKEN_QUESTION, NODE_IDENT, NODE_INTERPOL, NODE_PAT_BIND, NODE_PATTERN, NODE_PAT_ENTRY, NODE_ERROR, NODE_ROOT}}
@@ -13,7 +13,7 @@ use Rattle.rnix_grammar.specs.declared.position.Position.TheVariants as p
 use Rattle.rnix_grammar.specs.declared.rules.Part.TheVariants as r
 use Rattle.rnix_grammar.specs.declared.action.Action.TheVariants as a
 
--- the frame kind of a position, by the part that comes next; tokens, operands and names are at positions of several frame kinds
+-- the frame kind of a position, by the next part; tokens, operands and names occur at positions of several frame kinds, so theirs is given
 abbrev pub sort_by_part : Part → FrameKind → FrameKind
 sort_by_part (r.Many level closer) own = NodeFrame
 sort_by_part (r.Entries closer) own = NodeFrame
@@ -34,7 +34,7 @@ sort_by_part (r.EndOr NODE_PAT_BIND) own = Pattern
 sort_by_part (r.EndOr kind) own = NodeFrame
 sort_by_part part own = own
 
--- and by its slot
+-- the frame kind of a position, by its slot
 abbrev pub sort_by : Option Slot → FrameKind → FrameKind
 sort_by None own = NodeFrame
 sort_by (Some (End NODE_ROOT)) own = NodeFrame
@@ -47,25 +47,25 @@ sort_after (Some (Next r.TextEnd)) i own = own
 sort_after (Some (Next part)) i own = frame_kind (p.InRow (i + 1))
 sort_after slot i own = own
 
--- a token is in no second name, and an operand where one may be
+-- a position of this frame kind may have this slot: a token is in no second name, and an operand only where one may be
 abbrev may_stand : Option Slot → FrameKind → Bool
 may_stand (Some (Next (r.Operand level counted))) sort = may_hold sort OperandFrame
 may_stand (Some (Next (r.Wanted NODE_IDENT))) sort = true
 may_stand (Some (Next part)) sort = is_open sort
 may_stand slot sort = true
 
--- the end of the text is at one position
+-- the only index with this slot, if it is the end of the text
 abbrev index_by : Option Slot → ℕ → ℕ
 index_by (Some (Next r.TextEnd)) i = ROOT + 1
 index_by slot i = i
 
--- an error says that the child is wanted that is wanted
+-- the list of kinds that an error reports for a missing child is this child's kind alone
 abbrev ReportsMissingChild : Option Slot → Type 0
 ReportsMissingChild (Some (Next (r.Wanted NODE_IDENT))) = Unit {0}
 ReportsMissingChild (Some (Next (r.Wanted kind))) = wanted_kinds (expected_set_of kind) ≡ kind ∷ []
 ReportsMissingChild slot = Unit {0}
 
--- what an index is by its slot: its frame kind, that of the position after it, what may be there, and the steps that follow where the text has ended
+-- what the slot of an index fixes: its frame kind and the next one's, what may be there, and the number of steps at the end of the text
 abbrev SlotAgrees : Option Slot → ℕ → Type 0
 SlotAgrees slot i =
     (frame_kind (p.InRow i) ≡ sort_by slot (frame_kind (p.InRow i))) × (sort_after slot i (frame_kind (p.InRow i)) ≡ frame_kind (p.InRow i))
@@ -84,20 +84,20 @@ slot_agrees = each_index (λ i. SlotAgrees (slot_at i) i) (assumption) past_end
 pub sort_there : (i : ℕ) → frame_kind (p.InRow i) ≡ sort_by (slot_at i) (frame_kind (p.InRow i))
 sort_there i = (slot_agrees i).0
 
--- the steps of a position, by what is done there; they are few, and not none
+-- the measure of a position is that of its action at the end of the text; it is at least 1 and at most a small number
 pub measure_there : (position : Position)
     → (measure position ≡ steps_with measure (action_at position None false)) × (nat_le 1 (measure position) ≡ true) × (nat_le (measure position) 7 ≡ true)
 measure_there (p.InRow i) = let w = slot_agrees i in (w.4, w.5, w.6)
 measure_there (p.AfterOperand min_bp max_bp) = (refl, refl, refl)
 measure_there (p.Right level) = (refl, refl, refl)
 
--- a choice of two
+-- a choice is allowed if both of its actions are
 either : (position : Position) (next : Option SyntaxKind) (b : Bool) (x y : Action) → (b ≡ true → Allowed position next x)
     → (b ≡ false → Allowed position next y) → Allowed position next (if b then x else y)
 either position next true x y h k = h refl
 either position next false x y h k = k refl
 
--- where the text has ended
+-- the action at a slot is allowed at the end of the text
 ended : (slot : Option Slot) (i : ℕ) (touches : Bool) → start_measure (p.InRow i) ≡ start_measure_in slot → SlotAgrees slot i
     → Allowed (p.InRow i) None (slot_action slot i None touches)
 ended None i touches e w = (w.0, e)
@@ -119,7 +119,7 @@ ended (Some (Next r.TextEnd)) i touches e w = (ap p.InRow w.3, refl)
 ended (Some (Next (r.Wanted NODE_IDENT))) i touches e w = (refl, (w.1, omega (arith, w.4)))
 ended (Some (Next _)) i touches e w = (refl, (w.1, omega (arith, w.4)))
 
--- the positions of patterns
+-- if this position and both choices of the next one are a pattern's, the chosen one has the frame kind of this one
 same_sort : (bound : Bool) (i x y : ℕ) → frame_kind (p.InRow x) ≡ Pattern → frame_kind (p.InRow y) ≡ Pattern → frame_kind (p.InRow i) ≡ Pattern
     → frame_kind (p.InRow (if bound then x else y)) ≡ frame_kind (p.InRow i)
 same_sort true i x y h k e = h ∙ sym e
@@ -137,14 +137,14 @@ pattern_close : (bound : Bool) (i : ℕ) → frame_kind (p.InRow i) ≡ Pattern
     → frame_kind (p.InRow (if bound then BOUND_PATTERN_CLOSE else PATTERN_CLOSE)) ≡ frame_kind (p.InRow i)
 pattern_close bound i e = same_sort bound i BOUND_PATTERN_CLOSE PATTERN_CLOSE refl refl e
 
--- a token that is wanted
+-- consuming a wanted token is allowed
 token_at : (wanted : SyntaxKind) (i : ℕ) (kind : SyntaxKind) → frame_kind (p.InRow (i + 1)) ≡ frame_kind (p.InRow i) → is_open (frame_kind (p.InRow i)) ≡ true
     → wanted_kinds (expected_set_of wanted) ≡ wanted ∷ [] → Allowed (p.InRow i) (Some kind) (token_action wanted i (i + 1) kind)
 token_at wanted i kind n o t =
     either (p.InRow i) (Some kind) (same_kind wanted kind) (a.Take (i + 1)) (a.Run (expected_set_of wanted) i) (λ h. (refl, n, o))
     (λ h. (ap (list_any (λ k. same_kind k kind)) t ∙ ap (λ x. x || false) h, refl))
 
--- where an item is at hand
+-- the action at a slot is allowed before an item
 at_hand : (slot : Option Slot) (i : ℕ) (kind : SyntaxKind) (touches : Bool) → start_measure (p.InRow i) ≡ start_measure_in slot → SlotAgrees slot i
     → Allowed (p.InRow i) (Some kind) (slot_action slot i (Some kind) touches)
 at_hand None i kind touches e w = (w.0, e)
@@ -198,7 +198,7 @@ at_hand (Some (Next part)) i kind touches e w =
     each_kind (λ k. Allowed (p.InRow i) (Some k) (slot_action (Some (Next part)) i (Some k) touches))
     (assumption (w.0, sym w.0, ap is_open w.0, w.1, w.2, e)) kind
 
--- at each position
+-- the action at each position is allowed
 pub allowed : (position : Position) (next : Option SyntaxKind) (touches : Bool) → Allowed position next (action_at position next touches)
 allowed (p.InRow i) None touches = ended (slot_at i) i touches refl (slot_agrees i)
 allowed (p.InRow i) (Some kind) touches = at_hand (slot_at i) i kind touches refl (slot_agrees i)

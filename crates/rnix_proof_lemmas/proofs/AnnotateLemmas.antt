@@ -1,4 +1,4 @@
--- A tree over its items has them as its tokens, each as it is written.
+-- A tree whose leaves are some items can be annotated with these items as its tokens.
 use Rattle.std.proofs.Common.{◌≡◌, ℕ, Bool, true, false, List, [], ◌∷◌, ◌++◌, refl, ap, sym, ◌∙◌, append-nil, append_assoc, ◌&&◌, map, if◌then◌else◌}
 use Rattle.std.proofs.lemmas.Bool.{and_parts}
 use Rattle.{rnix_kinds.specs.{declared.kinds.SyntaxKind.SyntaxKind, SyntaxKind.is_token, Lexical.Tokens.Lexeme}, rnix_green.specs.Forest.{Forest, empty, leaf}}
@@ -7,7 +7,7 @@ use Rattle.rnix_proof_lemmas.specs.LeafKinds.{is_node}
 use Rattle.rnix_grammar.specs.Derivation.{beyond, annotate, has_tokens_alone}
 use Rattle.rnix_proof_lemmas.specs.LeafKinds.{HaveTokenKinds}
 
--- a forest over items, and what is left of them
+-- a forest annotated with the first of some items, and the items after these
 pub record IsAnnotated (f : Forest) (ts : List Token) (ls : List Lexeme) : Type 0 where
   pub tokens : tokens_in (annotate f ts) ++ beyond f ts ≡ ts
   pub forest : forget (annotate f ts) ≡ f
@@ -37,7 +37,7 @@ first_of k t m x ts h = by (ap heads h) (ap tails h)
         let text : t ≡ x.text = ap (λ (l : Lexeme). l.1) e in
         (sym (ap (λ (l : Lexeme). l.0) e) ∙ ap (kind_of_token k) text, sym text, u)
 
--- a forest over the items that it stands for, and more
+-- a forest whose leaves are the first of some items can be annotated with them
 pub annotate_row : (f : Forest) (ts : List Token) (ls : List Lexeme) → has_tokens_alone f ≡ true → yield f ++ ls ≡ map lexeme_of ts → IsAnnotated f ts ls
 annotate_row empty ts ls h e = record { tokens = refl; forest = refl; spelled = tt; rest = sym e }
 annotate_row (leaf k t f) [] ls h e = absurd (cc)
@@ -68,13 +68,13 @@ no_more : (us : List Token) → map lexeme_of us ≡ [] → us ≡ []
 no_more [] h = refl
 no_more (u ∷ us) h = absurd (cc)
 
--- a tree over all the items that it stands for
+-- a forest annotated with all of some items
 pub record IsAnnotatedRoot (f : Forest) (ts : List Token) : Type 0 where
   pub tokens : tokens_in (annotate f ts) ≡ ts
   pub forest : forget (annotate f ts) ≡ f
   pub spelled : HaveTokenKinds (annotate f ts)
 
--- a strict tree, annotated with the tokens that it yields
+-- a forest whose leaves are some items can be annotated with all of them
 pub annotate_root : (f : Forest) (ts : List Token) → has_tokens_alone f ≡ true → yield f ≡ map lexeme_of ts → IsAnnotatedRoot f ts
 annotate_root f ts h e =
     let r = annotate_row f ts [] h (append-nil (yield f) ∙ e) in

@@ -9,7 +9,7 @@ use Rattle.rnix_proof_lemmas.proofs.{Basics.{choice, Where}, EachKind.{Each, eac
 use Rattle.rnix_grammar.specs.declared.operand_start.OperandStart.{OperandStart}
 use Rattle.rnix_grammar.specs.declared.operand_start.OperandStart.TheVariants as b
 
--- it holds of what a token begins by itself, and by the next items, where any expression may begin
+-- a property of the first tree that a token begins, alone or with the next items, where any expression may begin
 abbrev pub EachFirst : (SyntaxKind → Option SyntaxKind → SyntaxKind → Type 0) → Option SyntaxKind → Type 0
 EachFirst P next =
     P TOKEN_IDENT (Some TOKEN_COLON) NODE_IDENT_PARAM × P TOKEN_IDENT (Some TOKEN_AT) NODE_PATTERN × P TOKEN_IDENT next NODE_CUR_POS
@@ -28,14 +28,14 @@ module _ (P : SyntaxKind → Option SyntaxKind → SyntaxKind → Type 0) (h : (
   let_alone (Some TOKEN_L_BRACE) = (h None).4
   let_alone next = alone TOKEN_LET next
 
-  -- so it is there
+  -- then it holds of the first tree for all first items there
   pub each_first : (i : SyntaxKind) (text : List ℕ) (second third : Option SyntaxKind) → P i second (first_kind 0 i text second third)
   each_first TOKEN_IDENT text second third = name text second
   each_first TOKEN_L_BRACE text second third = choice (P TOKEN_L_BRACE second) (is_pattern second third) (h second).3 (alone TOKEN_L_BRACE second)
   each_first TOKEN_LET text second third = let_alone second
   each_first i text second third = alone i second
 
--- the highest level at which a token begins an operand, where not at each
+-- the highest level at which a token begins an operand; none if it does so at every level
 abbrev pub highest : SyntaxKind → Option ℕ
 highest TOKEN_INVERT = Some 9
 highest TOKEN_SUB = Some 14
@@ -46,7 +46,7 @@ abbrev pub kind_up_to : Option ℕ → ℕ → SyntaxKind → SyntaxKind
 kind_up_to None level k = k
 kind_up_to (Some n) level k = kind_if (nat_le level n) k
 
--- only the lowest level is at most the lowest
+-- a level is at most the lowest exactly if it is the lowest
 lowest : (level : ℕ) (k : SyntaxKind) → kind_if (nat_eq level 0) k ≡ kind_if (nat_le level 0) k
 lowest level k = by (nat_eq level 0) (nat_le level 0) refl refl
   where
@@ -62,17 +62,17 @@ pub first_up_to : (level : ℕ) (i : SyntaxKind) (text : List ℕ) (second third
 first_up_to level TOKEN_LET text second third = lowest level (first_kind_of_let second)
 first_up_to level i text second third = first_of (assumption, search lowest)
 
--- a level is allowed
+-- a level is at most the highest allowed one, if there is one
 abbrev pub IsUpTo : Option ℕ → ℕ → Type 0
 IsUpTo None level = Unit {0}
 IsUpTo (Some n) level = level ≤ n
 
--- what holds of a kind that passes a test, and of an error, holds of what is begun
+-- what holds of a kind if a test is true, and of an error node, holds of the kind that is begun
 tested : (P : SyntaxKind → Type 0) (w : Bool) (k : SyntaxKind) → (w ≡ true → P k) → P NODE_ERROR → P (kind_if w k)
 tested P true k h e = h refl
 tested P false k h e = e
 
--- what holds of what begins an expression, where its level is allowed, and of an error, holds at each level
+-- what holds of the kind that begins an expression, if its level is allowed, and of an error node, holds at each level
 pub where_allowed : (P : SyntaxKind → Type 0) (level : ℕ) (i : SyntaxKind) (text : List ℕ) (second third : Option SyntaxKind)
     → (IsUpTo (highest i) level → P (first_kind 0 i text second third)) → Where (is_some (highest i)) (P NODE_ERROR) → P (first_kind level i text second third)
 where_allowed P level i text second third h e = subst P (sym (first_up_to level i text second third)) (by (highest i) h e)
@@ -84,7 +84,7 @@ where_allowed P level i text second third h e = subst P (sym (first_up_to level 
     by None h e = h tt
     by (Some n) h e = tested P (nat_le level n) k (λ l. h (at_most level n l)) e
 
--- so it is of each operand
+-- what holds of each first tree by one computation over all kinds holds of the first tree of each operand
 pub each_first_tree : (P : SyntaxKind → Option SyntaxKind → SyntaxKind → Type 0)
     → ((next : Option SyntaxKind) → EachFirst (λ i next k. P i next k × Where (is_some (highest i)) (P i next NODE_ERROR)) next)
     → (level : ℕ) (i : SyntaxKind) (text : List ℕ) (second third : Option SyntaxKind) → P i second (first_kind level i text second third)

@@ -5,38 +5,38 @@ use Rattle.rnix_grammar.specs.{AnnotatedForest.{blank, token, branch, fault, ◌
 use Rattle.rnix_grammar.specs.Trim.{BeginsWithItem, EndsWithItem, token_kinds, AreFaultsTrimmed}
 use Rattle.rnix_proof_lemmas.proofs.AnnotatedForestLemmas.{tokens_in-⊕}
 
--- some kinds
+-- a list of kinds that is not empty
 pub data IsSome : List SyntaxKind → Type 0 where
   some : (k : SyntaxKind) (ks : List SyntaxKind) → IsSome (k ∷ ks)
 
--- the last of some kinds is the last of more with these after
+-- a list that ends with an item still does with others before it
 pub ends_behind : (xs ys : List SyntaxKind) → IsSome ys → EndsWithItem ys → EndsWithItem (xs ++ ys)
 ends_behind [] ys s h = h
 ends_behind (x ∷ []) _ (some k ks) h = h
 ends_behind (x ∷ (z ∷ xs)) ys s h = ends_behind (z ∷ xs) ys s h
 
--- kinds with some before them are some
+-- a list that begins with a nonempty one is not empty
 pub some_before : (xs ys : List SyntaxKind) → IsSome xs → IsSome (xs ++ ys)
 some_before _ ys (some k ks) = some k (ks ++ ys)
 
--- and so are some with others before them
+-- a list that ends with a nonempty one is not empty
 pub some_behind : (xs ys : List SyntaxKind) → IsSome ys → IsSome (xs ++ ys)
 some_behind [] ys h = h
 some_behind (x ∷ xs) ys h = some x (xs ++ ys)
 
--- the last of two lists of kinds is no trivia if the last of each is none
+-- if two lists end with items, both joined end with an item
 pub ends_both : (xs ys : List SyntaxKind) → EndsWithItem xs → EndsWithItem ys → EndsWithItem (xs ++ ys)
 ends_both [] ys h j = j
 ends_both (x ∷ []) [] h j = h
 ends_both (x ∷ []) (y ∷ ys) h j = j
 ends_both (x ∷ (z ∷ xs)) ys h j = ends_both (z ∷ xs) ys h j
 
--- the first of some kinds is the first of more with these before
+-- if two joined lists begin with an item, so does the first
 pub begins_part : (xs ys : List SyntaxKind) → BeginsWithItem (xs ++ ys) → BeginsWithItem xs
 begins_part [] ys h = tt
 begins_part (x ∷ xs) ys h = h
 
--- the kinds of two lists of tokens
+-- the kinds of two joined lists of tokens are the kinds of both, joined
 pub token_kinds-++ : (ts us : List Token) → token_kinds (ts ++ us) ≡ token_kinds ts ++ token_kinds us
 token_kinds-++ [] us = refl
 token_kinds-++ (t ∷ ts) us = ap (λ x. t.kind ∷ x) (token_kinds-++ ts us)
@@ -45,11 +45,11 @@ token_kinds-++ (t ∷ ts) us = ap (λ x. t.kind ∷ x) (token_kinds-++ ts us)
 abbrev pub kinds_in : AnnotatedForest → List SyntaxKind
 kinds_in f = token_kinds (tokens_in f)
 
--- the kinds of the tokens of two forests, one after the other
+-- the kinds of the tokens of two joined forests are those of both, joined
 pub kinds_in-⊕ : (f g : AnnotatedForest) → kinds_in (f ⊕ g) ≡ kinds_in f ++ kinds_in g
 kinds_in-⊕ f g = ap token_kinds (tokens_in-⊕ f g) ∙ token_kinds-++ (tokens_in f) (tokens_in g)
 
--- error nodes side by side
+-- if the error nodes of two forests are trimmed, so are those of both joined
 pub faults_trimmed-⊕ : (f g : AnnotatedForest) → AreFaultsTrimmed f → AreFaultsTrimmed g → AreFaultsTrimmed (f ⊕ g)
 faults_trimmed-⊕ blank g h k = k
 faults_trimmed-⊕ (token j t f) g h k = faults_trimmed-⊕ f g h k

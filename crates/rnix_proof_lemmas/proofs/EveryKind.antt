@@ -1,4 +1,4 @@
--- What a test of all kinds says of each kind.
+-- What follows for each kind from a test of all kinds.
 use Rattle.std.{specs.List.list_all, proofs.Common.{◌≡◌, ◌≤◌, ℕ, Bool, true, false, ap, sym, ◌∙◌, arith, ◌&&◌, if◌then◌else◌, nat_eq, nat_le}}
 use Rattle.std.proofs.lemmas.Bool.Decides.{nat_tests}
 use Rattle.rnix_kinds.{specs.{SyntaxKind.{discriminant_of}, declared.kinds.SyntaxKind.SyntaxKind}, proofs.AllKinds.{same_discriminant, every, all_kinds, implied}}
@@ -17,41 +17,41 @@ equal m n h = grind (arith, nat_tests, h)
 pub same : (k w : SyntaxKind) → nat_eq (discriminant_of k) (discriminant_of w) ≡ true → k ≡ w
 same k w h = same_discriminant k w (equal (discriminant_of k) (discriminant_of w) h)
 
--- so one kind alone passes a test
+-- if one listed kind alone passes a test, each kind that passes it is that kind
 pub only : (a : SyntaxKind → Bool) (w : SyntaxKind) → list_all (λ k. if a k then nat_eq (discriminant_of k) (discriminant_of w) else true) all_kinds ≡ true
     → (k : SyntaxKind) → a k ≡ true → k ≡ w
 only a w h k e = same k w (implied a (λ j. nat_eq (discriminant_of j) (discriminant_of w)) h k e)
 
--- so every kind that passes two tests passes a third
+-- if each listed kind that passes two tests passes a third, so does every kind
 pub whenever_both : (a b c : SyntaxKind → Bool) → list_all (λ k. if a k then (if b k then c k else true) else true) all_kinds ≡ true → (k : SyntaxKind)
     → a k ≡ true → b k ≡ true → c k ≡ true
 whenever_both a b c h k e f =
     sym (ap (λ w. if w then c k else true) f) ∙ sym (ap (λ w. if w then (if b k then c k else true) else true) e)
     ∙ every (λ j. if a j then (if b j then c j else true) else true) h k
 
--- so one kind alone passes both
+-- if one listed kind alone passes two tests, each kind that passes both is that kind
 pub only_both : (a b : SyntaxKind → Bool) (w : SyntaxKind) → list_all
     (λ k. if a k then (if b k then nat_eq (discriminant_of k) (discriminant_of w) else true) else true) all_kinds ≡ true
     → (k : SyntaxKind) → a k ≡ true → b k ≡ true → k ≡ w
 only_both a b w h k e f = same k w (whenever_both a b (λ j. nat_eq (discriminant_of j) (discriminant_of w)) h k e f)
 
--- so no kind passes both
+-- if no listed kind passes two tests, no kind passes both
 pub never : (a b : SyntaxKind → Bool) → list_all (λ k. if a k then (if b k then false else true) else true) all_kinds ≡ true → (k : SyntaxKind) → a k ≡ true
     → b k ≡ true → ⊥
 never a b h k e f = true_is_not_false (sym (every (λ j. if a j then (if b j then false else true) else true) h k)
     ∙ ap (λ w. if w then (if b k then false else true) else true) e ∙ ap (λ w. if w then false else true) f)
 
--- and of two kinds
+-- if each two listed kinds that pass a test pass another, so do any two kinds
 pub whenever_two : (a b : SyntaxKind → SyntaxKind → Bool) → list_all (λ j. list_all (λ k. if a j k then b j k else true) all_kinds) all_kinds ≡ true
     → (j k : SyntaxKind) → a j k ≡ true → b j k ≡ true
 whenever_two a b h j k e = implied (a j) (b j) (every (λ i. list_all (λ l. if a i l then b i l else true) all_kinds) h j) k e
 
--- so one number is at most another, where a test is passed
+-- if one number of each listed kind that passes a test is at most another, this holds for every kind
 pub at_most : (a : SyntaxKind → Bool) (f g : SyntaxKind → ℕ) → list_all (λ k. if a k then nat_le (f k) (g k) else true) all_kinds ≡ true → (k : SyntaxKind)
     → a k ≡ true → f k ≤ g k
 at_most a f g h k e = let l : nat_le (f k) (g k) ≡ true = implied a (λ j. nat_le (f j) (g j)) h k e in grind (arith, nat_tests, l)
 
--- and is equal to it
+-- if two numbers of each listed kind that passes a test are equal, this holds for every kind
 pub alike : (a : SyntaxKind → Bool) (f g : SyntaxKind → ℕ) → list_all (λ k. if a k then nat_eq (f k) (g k) else true) all_kinds ≡ true → (k : SyntaxKind)
     → a k ≡ true → f k ≡ g k
 alike a f g h k e = let l : nat_eq (f k) (g k) ≡ true = implied a (λ j. nat_eq (f j) (g j)) h k e in grind (arith, nat_tests, l)

@@ -31,12 +31,12 @@ follows_by j x h = by (is_infix j) (is_question j) (is_fn_arg j) (is_dot j || is
         by_name (same_number (binding_power j) 16 (implied (λ o. is_dot o || is_or o) (λ o. nat_eq (binding_power o) 16) refl j k)) h
     by false false false false e f g k h = absurd (true_is_not_false (sym h))
 
--- an atom is as tight as any operator wants
+-- an atom is at level 16, as tight as any operator requires
 pub atom_is_selection_level : (k : SyntaxKind) (c : AnnotatedForest) → is_atom k ≡ true → level_of k c ≡ 16
 atom_is_selection_level NODE_PAREN c h = refl
 atom_is_selection_level _ c h = cc
 
--- so is a forest of one atom
+-- a forest of one atom is at level 16
 pub atom_level : (x : AnnotatedForest) → is_atom_row x ≡ true → row_level x ≡ 16
 atom_level (branch k c f) h = atom_is_selection_level k c h
 atom_level (fault n c f) h = refl
@@ -53,7 +53,7 @@ follows_level i x h = by (follows_by i x h) refl refl
     by (by_argument p l) d e = omega (arith, l, d, p)
     by (by_name p e) d u = omega (arith, p, atom_level x (sym u ∙ e))
 
--- What continues a tree is what binds no tighter than the level.
+-- every item that continues the tree binds no tighter than the level
 abbrev pub FollowedTo : ℕ → AnnotatedForest → Type 0
 FollowedTo max_bp x = (j : SyntaxKind) → ((1 ≤ binding_power j → binding_power j ≤ max_bp → follows j x ≡ true)
     × (follows j x ≡ true → (1 ≤ binding_power j) × (binding_power j ≤ max_bp)))
@@ -64,7 +64,7 @@ goes_after kind level atom =
     if is_infix kind then nat_le (left_of kind) level
     else (if is_question kind then nat_le 13 level else (if is_fn_arg kind then nat_le 15 level else ((is_dot kind || is_or kind) && atom)))
 
--- it may do so if it binds no tighter than another level, and only then
+-- an item of the kind may continue such a tree exactly if it binds no tighter than another level
 abbrev pub is_followed : ℕ → Bool → ℕ → SyntaxKind → Bool
 is_followed level atom max_bp j =
     if nat_le 1 (binding_power j) && nat_le (binding_power j) max_bp then goes_after j level atom else (if goes_after j level atom then false else true)
@@ -77,47 +77,47 @@ both_ways p max_bp false h = (
   λ e. absurd (true_is_not_false (sym e)),
 )
 
--- what is so of all kinds says what continues a tree of the level
+-- what is computed for all kinds says which items continue a tree of the level
 pub followed_by : (level : ℕ) (atom : Bool) (max_bp : ℕ) → list_all (is_followed level atom max_bp) all_kinds ≡ true → (x : AnnotatedForest)
     → row_level x ≡ level → is_atom_row x ≡ atom → FollowedTo max_bp x
 followed_by level atom max_bp h x e f j =
     both_ways (binding_power j) max_bp (follows j x) (subst (λ (a : Bool). is_followed (row_level x) a max_bp j ≡ true) (sym f)
     (subst (λ (l : ℕ). is_followed l atom max_bp j ≡ true) (sym e) (every (is_followed level atom max_bp) h j)))
 
--- an atom, or an error node
+-- an atom or an error node is followed by anything that binds no tighter than 16
 pub followed_atom : (x : AnnotatedForest) → row_level x ≡ 16 → is_atom_row x ≡ true → FollowedTo 16 x
 followed_atom = followed_by 16 true 16 refl
 
--- a selection, or a call of the name `or`
+-- a selection or a call of the name `or` is followed by what binds no tighter than 15
 pub followed_selection : (x : AnnotatedForest) → row_level x ≡ 16 → is_atom_row x ≡ false → FollowedTo 15 x
 followed_selection = followed_by 16 false 15 refl
 
--- another call
+-- any other call is followed by what binds no tighter than 15
 pub followed_call : (x : AnnotatedForest) → row_level x ≡ 15 → is_atom_row x ≡ false → FollowedTo 15 x
 followed_call = followed_by 15 false 15 refl
 
--- a negation
+-- a negation is followed by what binds no tighter than 13
 pub followed_negated : (x : AnnotatedForest) → row_level x ≡ 14 → is_atom_row x ≡ false → FollowedTo 13 x
 followed_negated = followed_by 14 false 13 refl
 
--- a test for an attribute
+-- a test for an attribute is followed by what binds no tighter than 13
 pub followed_question : (x : AnnotatedForest) → row_level x ≡ 13 → is_atom_row x ≡ false → FollowedTo 13 x
 followed_question = followed_by 13 false 13 refl
 
--- the other prefix operator
+-- an inversion is followed by what binds no tighter than 8
 pub followed_inverted : (x : AnnotatedForest) → row_level x ≡ 9 → is_atom_row x ≡ false → FollowedTo 8 x
 followed_inverted = followed_by 9 false 8 refl
 
--- what reaches as far as it can
+-- an expression that extends as far as possible is followed by what binds no tighter than 0
 pub followed_keyword : (x : AnnotatedForest) → row_level x ≡ 0 → is_atom_row x ≡ false → FollowedTo 0 x
 followed_keyword = followed_by 0 false 0 refl
 
--- a binary operator with its operands
+-- a binary operation is followed by what binds no tighter than its operator's `max_bp`
 pub followed_infix : (k : SyntaxKind) → is_infix k ≡ true → (x : AnnotatedForest) → row_level x ≡ binding_power k → is_atom_row x ≡ false
     → FollowedTo (max_bp_of k) x
 followed_infix k h = followed_by (binding_power k) false (max_bp_of k)
     (implied is_infix (λ i. list_all (is_followed (binding_power i) false (max_bp_of i)) all_kinds) refl k h)
 
--- no item continues a lone token
+-- no item continues a forest that begins with a token
 pub follows_token : (i k : SyntaxKind) (t : Token) (f : AnnotatedForest) → follows i (token k t f) ≡ true → ⊥
 follows_token i k t f h = let w = (followed_keyword (token k t f) refl refl i).1 h in omega (arith, w.0, w.1)

@@ -6,7 +6,7 @@ use Rattle.rnix_grammar.specs.{AnnotatedForest.{without_trivia, token_if, leaf_k
 use Rattle.rnix_grammar.specs.Layout.{trivia_before, item_if, items, tail_of, is_last, trivia_after, rest_after, remaining_after, with_trivia}
 use Rattle.rnix_proof_lemmas.proofs.{AnnotatedForestLemmas.tokens_two, Basics.true_is_not_false}
 
--- no trivia come before the first item
+-- no trivia are before the first item
 pub trivia-from_item : (ts : List Token) → trivia_before (from_item ts) ≡ blank
 trivia-from_item [] = refl
 trivia-from_item (t ∷ ts) = advance (trivia-from_item ts) (is_trivia t.kind) refl
@@ -15,7 +15,7 @@ trivia-from_item (t ∷ ts) = advance (trivia-from_item ts) (is_trivia t.kind) r
     advance ih true e = ih
     advance ih false e = ap (λ y. trivia_if y t (trivia_before ts)) e
 
--- from the first item on, the first item is the same
+-- skipping trivia twice is skipping them once
 pub from_item-from_item : (ts : List Token) → from_item (from_item ts) ≡ from_item ts
 from_item-from_item [] = refl
 from_item-from_item (t ∷ ts) = advance (from_item-from_item ts) (is_trivia t.kind) refl
@@ -30,30 +30,30 @@ abbrev pub items_head : List Token → List Token
 items_head [] = []
 items_head (t ∷ ts) = t ∷ items ts
 
--- the items are the first one and those after it
+-- the items are the first item and those after it
 pub items-view : (ts : List Token) → items ts ≡ items_head (from_item ts)
 items-view [] = refl
 items-view (t ∷ ts) =
     elim (is_trivia t.kind) as (λ x. item_if x t (items ts) ≡ items_head (from_item_if x t ts (from_item ts))) [ true ↦ items-view ts | false ↦ refl ]
 
--- the items are those from the first on
+-- skipping the trivia before the first item changes no items
 pub items-from_item : (ts : List Token) → items (from_item ts) ≡ items ts
 items-from_item ts = items-view (from_item ts) ∙ ap items_head (from_item-from_item ts) ∙ sym (items-view ts)
 
--- the items of two lists of tokens
+-- the items of two joined lists of tokens are those of both, joined
 pub items-++ : (xs ys : List Token) → items (xs ++ ys) ≡ items xs ++ items ys
 items-++ [] ys = refl
 items-++ (x ∷ xs) ys =
     elim (is_trivia x.kind) as (λ z. item_if z x (items (xs ++ ys)) ≡ item_if z x (items xs)
     ++ items ys) [ true ↦ items-++ xs ys | false ↦ ap (λ z. x ∷ z) (items-++ xs ys) ]
 
--- the first item, and what comes after it
+-- an item is the first one of some tokens, and these items come after it
 pub record IsFirst (t : Token) (us ts : List Token) : Type 0 where
   pub here : from_item ts ≡ t ∷ tail_of (from_item ts)
   pub item : is_trivia t.kind ≡ false
   pub remaining : items (tail_of (from_item ts)) ≡ us
 
--- the first of the items stands first from the first item on
+-- if these tokens begin with an item, it is their first token, and the items after it are those of the rest
 head_here : (xs : List Token) (t : Token) (us : List Token) → items_head xs ≡ t ∷ us → (xs ≡ t ∷ tail_of xs) × (items (tail_of xs) ≡ us)
 head_here [] t us e = absurd (cc)
 head_here (x ∷ xs) t us e =
@@ -71,13 +71,13 @@ from_item_item (x ∷ xs) t us e = advance (from_item_item xs t us) (is_trivia x
     advance ih true h e = ih e
     advance ih false h e = let same : x ≡ t = cc in ap (λ z. is_trivia z.kind) (sym same) ∙ h
 
--- the first item is found
+-- the first of the items has its place among the tokens
 pub first_item : (t : Token) (us ts : List Token) → items ts ≡ t ∷ us → IsFirst t us ts
 first_item t us ts e =
     let w = head_here (from_item ts) t us (sym (items-view ts) ∙ e) in
     record { here = w.0; item = from_item_item ts t (tail_of (from_item ts)) w.0; remaining = w.1 }
 
--- trivia go, items stay
+-- removing the trivia of two joined forests removes those of both
 pub without_trivia-⊕ : (f g : AnnotatedForest) → without_trivia (f ⊕ g) ≡ without_trivia f ⊕ without_trivia g
 without_trivia-⊕ blank g = refl
 without_trivia-⊕ (token k t f) g =
@@ -86,7 +86,7 @@ without_trivia-⊕ (token k t f) g =
 without_trivia-⊕ (branch k c f) g = ap (branch k (without_trivia c)) (without_trivia-⊕ f g)
 without_trivia-⊕ (fault n c f) g = ap (fault n (without_trivia c)) (without_trivia-⊕ f g)
 
--- trivia go
+-- trivia alone leave an empty forest when they are removed
 pub without_trivia-trivia : (ts : List Token) → without_trivia (trivia_before ts) ≡ blank
 without_trivia-trivia [] = refl
 without_trivia-trivia (t ∷ ts) = advance (without_trivia-trivia ts) (is_trivia t.kind) refl
@@ -95,26 +95,26 @@ without_trivia-trivia (t ∷ ts) = advance (without_trivia-trivia ts) (is_trivia
     advance ih true e = ap (λ y. token_if y t.kind t (without_trivia (trivia_before ts))) e ∙ ih
     advance ih false e = refl
 
--- and so where they come after a node
+-- trivia after a node leave an empty forest when they are removed
 without_trivia-trivia_after : (x : Bool) (ts : List Token) → without_trivia (trivia_after x ts) ≡ blank
 without_trivia-trivia_after true ts = without_trivia-trivia ts
 without_trivia-trivia_after false ts = refl
 
--- trivia before a forest
+-- removing trivia from a forest with trivia before it leaves that forest without its own
 without_trivia-behind : (ts : List Token) (f : AnnotatedForest) → without_trivia (trivia_before ts ⊕ f) ≡ without_trivia f
 without_trivia-behind ts f = without_trivia-⊕ (trivia_before ts) f ∙ ap (λ x. x ⊕ without_trivia f) (without_trivia-trivia ts)
 
--- the items after the node of what is too deep
+-- the trivia after an error node of the nesting limit contain no items
 pub items-rest_after : (x : Bool) (ts : List Token) → items (rest_after x ts) ≡ items ts
 items-rest_after true ts = items-from_item ts
 items-rest_after false ts = refl
 
--- without its trivia a forest with trivia is the forest
+-- removing the trivia of a forest with trivia gives the forest
 pub record IsBared (f : AnnotatedForest) (ts us : List Token) : Type 0 where
   pub same : without_trivia (with_trivia f ts) ≡ f
   pub remaining : items (remaining_after f ts) ≡ us
 
--- a forest of the first items, with trivia and then without, is the forest, and after it the other items are left
+-- a forest of the first items, with trivia added and removed again, is the same, and the other items follow it
 pub bared : (f : AnnotatedForest) (ts us : List Token) → items ts ≡ tokens_in f ++ us → IsBared f ts us
 bared blank ts us e = record { same = refl; remaining = e }
 bared (token k t f) ts us e =
@@ -148,23 +148,23 @@ bared (fault n c f) ts us e =
       remaining = behind.remaining;
     }
 
--- the tokens before the first item, and those from it on
+-- the trivia before the first item and the tokens from it on are all tokens
 pub trivia_tokens : (ts : List Token) → tokens_in (trivia_before ts) ++ from_item ts ≡ ts
 trivia_tokens [] = refl
 trivia_tokens (t ∷ ts) =
     elim (is_trivia t.kind) as (λ x. tokens_in (trivia_if x t (trivia_before ts)) ++ from_item_if x t ts (from_item ts) ≡ t ∷ ts)
     [ true ↦ ap (λ x. t ∷ x) (trivia_tokens ts) | false ↦ refl ]
 
--- the trivia after a node, and what is left
+-- the trivia after a node and the tokens after these are all tokens
 rest_tokens : (x : Bool) (ts : List Token) → tokens_in (trivia_after x ts) ++ rest_after x ts ≡ ts
 rest_tokens true ts = trivia_tokens ts
 rest_tokens false ts = refl
 
--- a forest after the trivia before it
+-- a forest with the trivia before it and the tokens after it are all tokens
 behind_trivia : (ts us : List Token) (f : AnnotatedForest) → tokens_in f ++ us ≡ from_item ts → tokens_in (trivia_before ts ⊕ f) ++ us ≡ ts
 behind_trivia ts us f e = tokens_two (trivia_before ts) f us ∙ ap (λ x. tokens_in (trivia_before ts) ++ x) e ∙ trivia_tokens ts
 
--- the leaves of a forest with trivia are the tokens
+-- the leaves of a forest with trivia, and the remaining tokens, are all tokens
 pub with_trivia_tokens : (f : AnnotatedForest) (ts us : List Token) → items ts ≡ tokens_in f ++ us → tokens_in (with_trivia f ts) ++ remaining_after f ts ≡ ts
 with_trivia_tokens blank ts us e = refl
 with_trivia_tokens (token k t f) ts us e =
@@ -192,7 +192,7 @@ with_trivia_tokens (fault n c f) ts us e =
     ∙ rest_tokens (is_last n) rest)
     ∙ with_trivia_tokens c (from_item ts) (tokens_in f ++ us) all)
 
--- where no item is left there is no first one
+-- if no item is left, no token is left from the first item on
 pub nothing_from : (xs : List Token) → items_head xs ≡ [] → xs ≡ []
 nothing_from [] h = refl
 nothing_from (t ∷ ts) h = absurd (cc)
@@ -202,25 +202,25 @@ trivia_name : (k : SyntaxKind) → is_trivia k ≡ true → k ≡ leaf_kind_as N
 trivia_name TOKEN_OR h = absurd (true_is_not_false (sym h))
 trivia_name _ h = cc
 
--- below the current position too
+-- below `__curPos` too
 trivia_leaf_kind : (k : SyntaxKind) → is_trivia k ≡ true → k ≡ leaf_kind_as NODE_CUR_POS k
 trivia_leaf_kind TOKEN_IDENT h = absurd (true_is_not_false (sym h))
 trivia_leaf_kind _ h = refl
 
--- below any parent
+-- trivia keep their kinds below any parent
 pub trivia_keeps_kind : (p k : SyntaxKind) → is_trivia k ≡ true → k ≡ leaf_kind_as p k
 trivia_keeps_kind NODE_IDENT k h = trivia_name k h
 trivia_keeps_kind NODE_CUR_POS k h = trivia_leaf_kind k h
 trivia_keeps_kind _ k h = refl
 
--- two forests whose leaves have the kinds of their tokens below their parents
+-- if the leaves of two forests have their kinds below a parent, so have those of both joined
 pub leaf_kind-⊕ : (p : SyntaxKind) (f g : AnnotatedForest) → HaveLeafKinds p f → HaveLeafKinds p g → HaveLeafKinds p (f ⊕ g)
 leaf_kind-⊕ p blank g h k = k
 leaf_kind-⊕ p (token j t f) g h k = (h.0, leaf_kind-⊕ p f g h.1 k)
 leaf_kind-⊕ p (branch j c f) g h k = (h.0, leaf_kind-⊕ p f g h.1 k)
 leaf_kind-⊕ p (fault n c f) g h k = (h.0, leaf_kind-⊕ p f g h.1 k)
 
--- trivia keep their kinds below every parent
+-- trivia before a node keep their kinds below any parent
 pub trivia_leaf_kinds : (p : SyntaxKind) (ts : List Token) → HaveLeafKinds p (trivia_before ts)
 trivia_leaf_kinds p [] = tt
 trivia_leaf_kinds p (t ∷ ts) = advance (trivia_leaf_kinds p ts) (is_trivia t.kind) refl
@@ -229,12 +229,12 @@ trivia_leaf_kinds p (t ∷ ts) = advance (trivia_leaf_kinds p ts) (is_trivia t.k
     advance ih true e = (trivia_keeps_kind p t.kind e, ih)
     advance ih false e = tt
 
--- and so after a node
+-- trivia after a node keep their kinds below any parent
 trivia_after_leaf_kinds : (p : SyntaxKind) (x : Bool) (ts : List Token) → HaveLeafKinds p (trivia_after x ts)
 trivia_after_leaf_kinds p true ts = trivia_leaf_kinds p ts
 trivia_after_leaf_kinds p false ts = tt
 
--- so have the leaves of a forest with trivia
+-- if the leaves of a forest have their kinds, so have those of the forest with trivia
 pub with_trivia_leaf_kinds : (p : SyntaxKind) (f : AnnotatedForest) (ts : List Token) → HaveLeafKinds p f → HaveLeafKinds p (with_trivia f ts)
 with_trivia_leaf_kinds p blank ts h = tt
 with_trivia_leaf_kinds p (token k t f) ts h =

@@ -8,7 +8,7 @@ use Rattle.rnix_grammar.specs.{Rules.{Row, missing}}
 use Rattle.rnix_proof_lemmas.proofs.{Basics.true_is_not_false, ReachableRows.{IsKnown, each_known}}
 use Rattle.rnix_grammar.specs.declared.expected_set.ExpectedSet.TheVariants as u
 
--- the kinds that are wanted say by which list they are
+-- the set of expected kinds whose list this is
 abbrev expected_set_of : List SyntaxKind → ExpectedSet
 expected_set_of (TOKEN_R_PAREN ∷ ks) = u.RParen
 expected_set_of (TOKEN_L_BRACE ∷ ks) = u.LBrace
@@ -30,7 +30,7 @@ abbrev is_end : ExpectedSet → Bool
 is_end u.End = true
 is_end until = false
 
--- a list of wanted kinds, if there is one, is one of those
+-- an error that lists kinds lists those of such a set
 abbrev IsListed : Fault → Type 0
 IsListed (unexpected_eof_wanted kinds) = (is_end (expected_set_of kinds) ≡ false) × (kinds ≡ wanted_kinds (expected_set_of kinds))
 IsListed e = Unit {0}
@@ -39,7 +39,7 @@ listed : (e : Fault) → IsListed e → IsNamedList e
 listed (unexpected_eof_wanted kinds) h = (expected_set_of kinds, λ e. true_is_not_false (sym (ap is_end e) ∙ h.0), h.1)
 listed _ h = h
 
--- an error at the end of the text
+-- what is missing, if anything, is reported by an error at the end of the text
 abbrev IsMissing : Option (Fault × Row) → Type 0
 IsMissing None = Unit {0}
 IsMissing (Some w) = (is_ended w.0 ≡ true) × IsListed w.0

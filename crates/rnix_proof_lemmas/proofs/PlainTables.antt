@@ -3,14 +3,14 @@ use Rattle.std.proofs.Common.{ℕ, zero, suc, Bool, true, false, Option, Some, N
 use Rattle.rnix_kinds.specs.declared.kinds.SyntaxKind.{SyntaxKind, TheVariants.{TOKEN_AT, TOKEN_COLON, TOKEN_DOT, TOKEN_INTERPOL_START}}
 use Rattle.rnix_grammar.specs.{Levels.{binding_power}}
 
--- the tokens that make more of a name or a path before them
+-- the tokens that make a longer name or path of what precedes them
 abbrev pub is_bound : SyntaxKind → Bool
 is_bound TOKEN_COLON = true
 is_bound TOKEN_AT = true
 is_bound TOKEN_INTERPOL_START = true
 is_bound kind = false
 
--- the next token is at most an operator of the level, or ends an expression
+-- the next token is an operator of at most the level, or ends an expression
 abbrev pub binds_at_most : ℕ → Option SyntaxKind → Bool
 binds_at_most h None = true
 binds_at_most h (Some k) = if is_bound k then false else nat_le (binding_power k) h

@@ -1,4 +1,4 @@
--- The rows that readings come by: what is left of the rows of each kind of node. What holds of each of them is shown by one computation.
+-- The rests of rows that occur in readings, for each kind of node. What holds of each of them is shown by one computation.
 use Rattle.std.specs.List.{list_all}
 use Rattle.std.proofs.Common.{◌≡◌, ℕ, zero, suc, take, drop, Bool, true, false, List, [], ◌∷◌, ◌++◌, Option, Some, None, refl, ap, sym, ◌∙◌, subst, arith, ◌&&◌}
 use Rattle.std.proofs.Common.{if◌then◌else◌, nat_eq}
@@ -17,7 +17,7 @@ use Rattle.rnix_proof_lemmas.specs.SlotRows.{remaining_in, kind_in}
 use Rattle.rnix_grammar.specs.AnnotatedForest.{Token, Note, Stray, Unwanted, Extra, DoubleBind, TooDeep}
 use Rattle.{rnix_grammar.specs.Reads.IsWrong, rnix_proof_lemmas.proofs.Basics.true_is_not_false}
 
--- there is a row
+-- the row is not `never`
 abbrev pub is_viable : Row → Bool
 is_viable never = false
 is_viable r = true
@@ -104,7 +104,7 @@ row_is (r or s) (t or u) h =
     ap (λ r. r or s) (row_is r t both.0) ∙ ap (λ s. t or s) (row_is s u both.1)
 row_is _ _ h = absurd (true_is_not_false (sym h))
 
--- what is left of rows: at each index of the table, where a kind has several rows, and after an operator
+-- all rests of rows: at each index of the table, for kinds with several rows, and after an operator
 abbrev lefts : List Slot → List (SyntaxKind × Row) → List (SyntaxKind × Row)
 lefts [] rest = rest
 lefts (s ∷ ss) rest = (kind_in (s ∷ ss), remaining_in (s ∷ ss)) ∷ lefts ss rest
@@ -129,24 +129,24 @@ several = NODE_LITERAL ∷ (NODE_ATTR_SET ∷ (NODE_LAMBDA ∷ (NODE_PATTERN ∷
 abbrev pub known_rows : List (SyntaxKind × Row)
 known_rows = lefts SLOTS ((NODE_ERROR, second_name) ∷ begun several (operated all_kinds))
 
--- a row of a kind is one of some
+-- a row of a kind is in a list
 abbrev pub is_among_rows : List (SyntaxKind × Row) → SyntaxKind → Row → Bool
 is_among_rows [] i r = false
 is_among_rows (x ∷ xs) i r = if same_row x.1 r && same_kind x.0 i then true else is_among_rows xs i r
 
--- this is left somewhere in a row of the kind, or nothing is
+-- a row is known for a kind: it is a rest of one of its rows, or `never`
 abbrev pub is_known : SyntaxKind → Row → Bool
 is_known i r = if is_viable r then is_among_rows known_rows i r else true
 
 pub record IsKnown (i : SyntaxKind) (r : Row) : Type 0 where
   pub known : is_known i r ≡ true
 
--- each of some rows is so
+-- a property holds of each of some rows
 abbrev pub EachRow : (SyntaxKind → Row → Type 0) → List (SyntaxKind × Row) → Type 0
 EachRow P [] = Unit {0}
 EachRow P (x ∷ xs) = P x.0 x.1 × EachRow P xs
 
--- some rows and those after them
+-- a property of the first rows and of those after them holds of all
 pub each_parts : (P : SyntaxKind → Row → Type 0) (n : ℕ) (xs : List (SyntaxKind × Row)) → EachRow P (take n xs) → EachRow P (drop n xs) → EachRow P xs
 each_parts P zero xs h g = g
 each_parts P (suc n) [] h g = tt
@@ -167,7 +167,7 @@ pub dead_is : (r : Row) → is_viable r ≡ false → r ≡ never
 dead_is never e = refl
 dead_is _ e = absurd (true_is_not_false e)
 
--- what holds of nothing and of each row holds of each that is known
+-- a property of `never` and of each known row in the list holds of every known row
 pub each_known : (P : SyntaxKind → Row → Type 0) → ((i : SyntaxKind) → P i never) → EachRow P known_rows → (i : SyntaxKind) (r : Row) → IsKnown i r → P i r
 each_known P n h i r k = by (is_viable r) refl k.known
   where
@@ -175,7 +175,7 @@ each_known P n h i r k = by (is_viable r) refl k.known
     by true e k = each_among P known_rows i r h k
     by false e k = subst (P i) (sym (dead_is r e)) (n i)
 
--- and so does a test
+-- a test that each of some rows passes is true of each
 all_pass : (test : SyntaxKind → Row → Bool) (xs : List (SyntaxKind × Row)) → list_all (λ x. test x.0 x.1) xs ≡ true → EachRow (λ i r. test i r ≡ true) xs
 all_pass test [] h = tt
 all_pass test (x ∷ xs) h = let both = and_parts (test x.0 x.1) (list_all (λ x. test x.0 x.1) xs) h in (both.0, all_pass test xs both.1)
@@ -184,19 +184,19 @@ pub every_known : (test : SyntaxKind → Row → Bool) → ((i : SyntaxKind) →
     → (i : SyntaxKind) (r : Row) → IsKnown i r → test i r ≡ true
 every_known test n h = each_known (λ i r. test i r ≡ true) n (all_pass test known_rows h)
 
--- where rows begin
+-- the whole row of a kind is known
 pub known_row : (k : SyntaxKind) → IsKnown k (row k)
 known_row k = record { known = every (λ k. is_known k (row k)) refl k }
 
 pub known_second : IsKnown NODE_ERROR second_name
 known_second = record { known = refl }
 
--- a child leads to such a row
+-- after a child, a known row is known
 pub known_after : {i : SyntaxKind} {r : Row} (k : SyntaxKind) → IsKnown i r → IsKnown i (after r k)
 known_after {i} {r} k h =
     record { known = every (λ k. is_known i (after r k)) (every_known (λ i r. list_all (λ k. is_known i (after r k)) all_kinds) (λ i. refl) refl i r h) k }
 
--- so does what is missing, and a run
+-- after a missing part or a run, a known row is known
 abbrev is_known_behind : {A : Type 0} → SyntaxKind → Option (A × Row) → Bool
 is_known_behind i None = true
 is_known_behind i (Some w) = is_known i w.1
@@ -207,7 +207,7 @@ known_missing {i} {q} m h = record { known = sym (ap (is_known_behind i) m) ∙ 
 pub known_run : {i : SyntaxKind} {q r : Row} {ks : List SyntaxKind} → run_at q ≡ Some (ks, r) → IsKnown i q → IsKnown i r
 known_run {i} {q} m h = record { known = sym (ap (is_known_behind i) m) ∙ every_known (λ i r. is_known_behind i (run_at r)) (λ i. refl) refl i q h }
 
--- and a second name
+-- the row expects a second name of its pattern
 abbrev is_bound : Row → Bool
 is_bound (BoundAlready · r) = true
 is_bound r = false
@@ -215,7 +215,7 @@ is_bound r = false
 pub known_past : {i : SyntaxKind} → IsKnown i (BoundAlready · done) → IsKnown i done
 known_past {i} h = record { known = every_known (λ i r. if is_bound r then is_known i done else true) (λ i. refl) refl i (BoundAlready · done) h }
 
--- and each error node
+-- after each error node, a known row is known
 pub known_wrong : {i : SyntaxKind} {q r : Row} (note : Note) (d : ℕ) (ts us : List Token) → IsWrong note d q r ts us → IsKnown i q → IsKnown i r
 known_wrong {i} Stray d ts us w h = subst (IsKnown i) w.3 (known_after NODE_LITERAL h)
 known_wrong (Unwanted until) d ts us w h = known_run w.2 h

@@ -1,15 +1,15 @@
--- What is trimmed is reported as its items are.
+-- Trimmed tokens are reported as their items are.
 use Rattle.std.proofs.Common.{◌≡◌, ℕ, Bool, true, false, List, [], ◌∷◌, ◌++◌, refl, ap, sym, ◌∙◌}
 use Rattle.{rnix_kinds.specs.{declared.kinds.SyntaxKind.SyntaxKind, SyntaxKind.is_trivia}, rnix_grammar.specs.AnnotatedForest.{Token, Note, Stray}}
 use Rattle.rnix_grammar.specs.{AnnotatedForest.{AnnotatedForest, blank, token, branch, fault, tokens_in, without_trivia, token_if, end_from}, Layout.item_if}
 use Rattle.{rnix_grammar.specs.{Layout.items, Reports.report, Trim.{BeginsWithItem, EndsWithItem, token_kinds}}, rnix_proof_lemmas.proofs.LayoutLemmas.items-++}
 
--- a leaf goes where its token is no item
+-- a leaf without trivia is the token, if that is an item
 onto_items : (x : Bool) (k : SyntaxKind) (t : Token) (f : AnnotatedForest) (us : List Token) → tokens_in f ≡ us → tokens_in (token_if x k t f) ≡ item_if x t us
 onto_items true k t f us e = e
 onto_items false k t f us e = ap (λ z. t ∷ z) e
 
--- the tokens of a forest without trivia are the items among the forest's tokens
+-- the tokens of a forest without trivia are the items among its tokens
 pub without_trivia_tokens : (f : AnnotatedForest) → tokens_in (without_trivia f) ≡ items (tokens_in f)
 without_trivia_tokens blank = refl
 without_trivia_tokens (token k t f) = onto_items (is_trivia t.kind) k t (without_trivia f) (items (tokens_in f)) (without_trivia_tokens f)

@@ -42,7 +42,7 @@ front (First m · r) h = record { expected = λ n ts own. tt; followed = λ x ne
 front (r or s) h = record { expected = λ n ts own. tt; followed = λ x next. tt; no_operand = no_operand (r or s) (λ x. refl) refl }
 front _ h = absurd (cc)
 
--- what may be left of a row at a position: a part that may be missing, or one before which the reader may be
+-- what a row may expect at a position: a part that may be missing, or one before which the reader may be
 abbrev pub is_remaining : Row → Bool
 is_remaining (Child kind · r) = false
 is_remaining (Atom · r) = false
@@ -54,7 +54,7 @@ is_remaining (r or s) = false
 is_remaining (Many n closer · r) = is_token closer
 is_remaining r = true
 
--- no condition follows for the tree before it
+-- the tree before such a part has no condition on what follows it
 pub remaining_followed : (r : Row) → is_remaining r ≡ true → (x : AnnotatedForest) (next : Option SyntaxKind) → IsFollowed r x next
 remaining_followed (Suffix token · r) h x next = absurd (cc)
 remaining_followed (Binary · r) h x next = absurd (cc)
@@ -62,32 +62,32 @@ remaining_followed (Argument · r) h x next = absurd (cc)
 remaining_followed (_ · r) h x next = tt
 remaining_followed _ h x next = tt
 
--- the level is the same for every tree
+-- the level that such a part requires does not depend on the tree before it
 pub left_level : (r : Row) → is_remaining r ≡ true → (x : AnnotatedForest) → level_at r x ≡ level_at r blank
 left_level (Argument · r) h x = absurd (cc)
 left_level _ h x = refl
 
--- so the next child is not an operand where no level is required
+-- so the next child is not an operand if no level is required
 pub remaining_no_operand : (r : Row) → is_remaining r ≡ true → counts r ≡ false → level_at r blank ≡ None → HasNoOperand r
 remaining_no_operand r i c l = no_operand r (λ x. left_level r i x ∙ l) c
 
--- whether its first item is expected is the same for every tree
+-- whether such a part expects its first item does not depend on the tree after it
 pub remaining_first_expected : (r : Row) → is_remaining r ≡ true → (k : SyntaxKind) (c : AnnotatedForest)
     → is_first_expected r k c ≡ is_first_expected r k blank
 remaining_first_expected (Argument · r) h k c = absurd (cc)
 remaining_first_expected _ h k c = refl
 
--- the next item, or the end of the text, is expected
+-- the row expects the next item, or the end of the text
 abbrev pub expects_next : Row → Bool → Option SyntaxKind → Bool
 expects_next r touch None = expects_end r
 expects_next r touch (Some k) = expects_item r touch k
 
--- the same before some items
+-- the same for a list of items
 pub expects_at : (r : Row) (n : ℕ) (ts : List Token) → expects r n ts ≡ expects_next r (touches n ts) (head_kind ts)
 expects_at r n [] = refl
 expects_at r n (t ∷ ts) = refl
 
--- the condition on what is expected holds
+-- the condition on the expected item holds for the test's result
 pub expected_as : (r : Row) (n : ℕ) (ts : List Token) (own : Bool) → expects r n ts ≡ own → IsExpected r n ts own
 expected_as (Child kind · r) n ts own h = tt
 expected_as (Atom · r) n ts own h = tt
@@ -97,7 +97,7 @@ expected_as (Binary · r) n ts own h = tt
 expected_as (r or s) n ts own h = tt
 expected_as _ n ts own h = h
 
--- no kind of expression is that of a token
+-- a token's kind is not that of an expression
 no_token : (closer k : SyntaxKind) → is_token closer ≡ true → is_expression k ≡ true → same_kind closer k ≡ false
 no_token closer k h e = by (same_kind closer k) refl
   where
@@ -106,7 +106,7 @@ no_token closer k h e = by (same_kind closer k) refl
         ∙ not_if (is_token k) (implied is_expression (λ j. if is_token j then false else true) refl k e)))
     by false i = i
 
--- where operands of a level are allowed, the row continues after each that fits the level as it does after an error node
+-- if operands of a level are allowed, the row continues after each that fits the level as after an error node
 pub operand_goes : (r : Row) (n : ℕ) (k : SyntaxKind) → is_remaining r ≡ true → level_at r blank ≡ Some n → fits n k ≡ true → after r k ≡ after r NODE_LITERAL
 operand_goes (Operand m counted · r) n k i e h =
     let j : m ≡ n = some_same m n e in ap (λ w. only w r) (ap (λ m. fits m k) j ∙ h ∙ sym (atom_fits m NODE_LITERAL refl))
@@ -119,7 +119,7 @@ operand_goes (Many m closer · r) n k i e h =
 operand_goes (Argument · r) n k i e h = absurd (cc)
 operand_goes _ n k i e h = absurd (cc)
 
--- operands are never expected by their first item
+-- no operand is expected by its first item
 pub operand_not_expected : (r : Row) (n : ℕ) (k : SyntaxKind) → is_remaining r ≡ true → level_at r blank ≡ Some n → is_first_expected r k blank ≡ false
 operand_not_expected (Operand m counted · r) n k i e = refl
 operand_not_expected (Many m closer · r) n k i e = refl

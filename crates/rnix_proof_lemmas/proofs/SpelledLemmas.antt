@@ -7,7 +7,7 @@ use Rattle.rnix_grammar.specs.AnnotatedForest.{tokens_in, without_trivia, placed
 use Rattle.rnix_proof_lemmas.specs.Spelled.{is_spelled, AreSpelled}
 use Rattle.rnix_grammar.specs.Tables as tables
 
--- the word `or` is found
+-- a text that is `or` passes the test for it
 or_is : (text : List ℕ) → text ≡ codes "or" → tables.is_or text ≡ true
 or_is text e = (bytes_eq-Decides text (codes "or")).1 e
 
@@ -18,14 +18,14 @@ or_is_not text h = by (tables.is_or text) refl
     by true e = absurd (h ((bytes_eq-Decides text (codes "or")).0 e))
     by false e = ap (λ w. if w then false else true) e
 
--- what a kind says of its text
+-- a token's text is spelled as its kind requires
 spelled_by : (k : SyntaxKind) (text : List ℕ) → MayBe k text → is_spelled k text ≡ true
 spelled_by TOKEN_CUR_POS text h = absurd h
 spelled_by TOKEN_OR text h = or_is text h
 spelled_by TOKEN_IDENT text h = or_is_not text h
 spelled_by _ text h = h
 
--- the tokens are what their kinds say
+-- the texts of the tokens are those that the lexical rules allow for their kinds
 abbrev pub AreRuled : List Lexeme → Type 0
 AreRuled tokens = All (λ (l : Lexeme). MayBe l.0 l.1) tokens
 
@@ -35,17 +35,17 @@ spelled_from n [] h = tt
 spelled_from n (l ∷ ls) h =
     (spelled_by l.0 l.1 (All-head (λ (l : Lexeme). MayBe l.0 l.1) l ls h), spelled_from (n + length l.1) ls (All-tail (λ (l : Lexeme). MayBe l.0 l.1) l ls h))
 
--- the tokens of the first of two forests
+-- if joined tokens are spelled, so are the first ones
 pub spelled_first : (ts us : List Token) → AreSpelled (ts ++ us) → AreSpelled ts
 spelled_first [] us h = tt
 spelled_first (t ∷ ts) us h = (h.0, spelled_first ts us h.1)
 
--- and of the second
+-- if joined tokens are spelled, so are the second ones
 pub spelled_rest : (ts us : List Token) → AreSpelled (ts ++ us) → AreSpelled us
 spelled_rest [] us h = h
 spelled_rest (t ∷ ts) us h = spelled_rest ts us h.1
 
--- so are those that are left of a forest without its trivia
+-- if two lists of tokens are spelled, so are both joined
 spelled-++ : (ts us : List Token) → AreSpelled ts → AreSpelled us → AreSpelled (ts ++ us)
 spelled-++ [] us h k = k
 spelled-++ (t ∷ ts) us h k = (h.0, spelled-++ ts us h.1 k)
@@ -55,7 +55,7 @@ spelled_if : (w : Bool) (k : SyntaxKind) (t : Token) (f : AnnotatedForest) → i
 spelled_if true k t f h s = s
 spelled_if false k t f h s = (h, s)
 
--- and so are those of a forest without trivia
+-- if the tokens of a forest are spelled, so are those of the forest without trivia
 pub without_trivia_spelled : (f : AnnotatedForest) → AreSpelled (tokens_in f) → AreSpelled (tokens_in (without_trivia f))
 without_trivia_spelled blank h = tt
 without_trivia_spelled (token k t f) h = spelled_if (is_trivia t.kind) k t (without_trivia f) h.0 (without_trivia_spelled f h.1)

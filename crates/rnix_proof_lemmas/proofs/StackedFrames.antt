@@ -14,19 +14,19 @@ use Rattle.rnix_grammar.specs.declared.position.Position.TheVariants as p
 use Rattle.rnix_grammar.specs.declared.action.Action.TheVariants as a
 use Rattle.rnix_grammar.specs.declared.operand_start.OperandStart.TheVariants as b
 
--- a node that begins an operand is plain, and two items begin one only where a second is left
+-- an operand begins with a node of the plain frame kind, and with two items only if there is a second one
 abbrev pub BeginsInner : Option SyntaxKind → OperandStart → Type 0
 BeginsInner second (b.Node k remaining max_bp) = (frame_kind_of_node k ≡ NodeFrame) × (frame_kind (p.InRow remaining) ≡ NodeFrame)
 BeginsInner second b.LegacyLet = is_there second ≡ true
 BeginsInner second b.BoundLambda = is_there second ≡ true
 BeginsInner second how = Unit {0}
 
--- what any token begins
+-- whatever token begins an operand, it begins it so
 pub operand_start_inner : (level : ℕ) (kind : SyntaxKind) (text : List ℕ) (second third : Option SyntaxKind)
     → BeginsInner second (operand_start_of level kind text second third)
 operand_start_inner = each_first_tree (λ kind second k. BeginsInner second (operand_start_for k kind)) (λ second. assumption)
 
--- what is open may hold a plain node
+-- an open frame may hold a plain node
 pub open_holds : (sort : FrameKind) → is_open sort ≡ true → may_hold sort NodeFrame ≡ true
 open_holds SecondBindFrame e = absurd (true_is_not_false (sym e))
 open_holds _ e = cc
@@ -36,25 +36,25 @@ pub no_holder : (sort : FrameKind) → may_hold sort Root ≡ false
 no_holder Root = refl
 no_holder _ = cc
 
--- the root's head
+-- only the node of the text is the root
 pub head_root : (head : Head) → frame_kind_of_head head ≡ Root → head ≡ Node NODE_ROOT
 head_root (Node NODE_ROOT) e = refl
 head_root (Node k) e = absurd (cc)
 head_root SecondBind e = absurd (cc)
 head_root Operand e = absurd (cc)
 
--- the root is alone
+-- no frame is below the root
 pub root_alone : (head : Head) (position : Position) (fs : List Frame) → IsStackedOn head position fs → frame_kind position ≡ Root → fs ≡ []
 root_alone head position [] w e = refl
 root_alone head position (g ∷ fs) w e = absurd (true_is_not_false (sym w.1 ∙ ap (may_hold (frame_kind g.position)) e ∙ no_holder (frame_kind g.position)))
 
--- and is the lowest
+-- the lowest frame is the root
 pub root_lowest : (head : Head) (position : Position) (fs : List Frame) → IsStackedOn head position fs → fs ≡ []
     → (frame_kind_of_head head ≡ frame_kind position) × (frame_kind position ≡ Root)
 root_lowest head position [] w e = w
 root_lowest head position (g ∷ fs) w e = absurd (cc)
 
--- the position that comes next is of the same frame kind
+-- the next position of a row has the same frame kind
 pub next_sort : (position : Position) (after : ℕ) (next : Option SyntaxKind) → IsNext position next after → frame_kind (p.InRow after) ≡ frame_kind position
 next_sort position after None h = h.0
 next_sort position after (Some kind) h = h
@@ -64,19 +64,19 @@ onward : (head : Head) (position after : Position) (fs : List Frame) → frame_k
 onward head position after [] e w = (w.0 ∙ sym e, e ∙ w.1)
 onward head position after (g ∷ fs) e w = (w.0 ∙ sym e, ap (may_hold (frame_kind g.position)) e ∙ w.1, w.2)
 
--- an operand in place of another
+-- an operand may replace another
 instead : (head : Head) (position : Position) (min_bp max_bp : ℕ) (fs : List Frame) → frame_kind position ≡ OperandFrame → IsStackedOn head position fs
     → IsStackedOn Operand (p.AfterOperand min_bp max_bp) fs
 instead head position min_bp max_bp [] e w = absurd (cc)
 instead head position min_bp max_bp (g ∷ fs) e w = (refl, ap (may_hold (frame_kind g.position)) (sym e) ∙ w.1, w.2)
 
--- a plain node inside what is open
+-- a plain node may be inside an open frame
 inside : (k : SyntaxKind) (position : Position) (f : Frame) (fs : List Frame) → frame_kind_of_node k ≡ NodeFrame → frame_kind position ≡ NodeFrame
     → is_open (frame_kind f.position) ≡ true → IsStackedOn f.head f.position fs
     → IsStackedOn (Node k) position (f ∷ fs)
 inside k position f fs n e o w = (n ∙ sym e, ap (may_hold (frame_kind f.position)) e ∙ open_holds (frame_kind f.position) o, w)
 
--- a frame is complete
+-- the frames stay stacked when the innermost one is complete
 closed_stacked : (f : Frame) (fs : List Frame) (ts : List Token) (n : ℕ) (es : List Fault) → IsStackedOn f.head f.position fs
     → AreStacked (closed f fs ts n es).frames
 closed_stacked f [] ts n es w = w
@@ -87,7 +87,7 @@ entry_stacked : (trivia : Bool) (f : Frame) (fs : List Frame) (ts : List Token) 
 entry_stacked trivia f [] ts n es w = w
 entry_stacked trivia f (g ∷ fs) ts n es w = w.2
 
--- an operand begins where one may be
+-- the frames stay stacked when an operand begins where one may be
 begun_stacked : (trivia : Bool) (second : Option SyntaxKind) (how : OperandStart) (level d : ℕ) (t : Token) (f : Frame) (fs : List Frame) (ts : List Token)
     (n : ℕ)
     (es : List Fault)
@@ -103,7 +103,7 @@ begun_stacked trivia second b.BoundLambda level d t f fs ts n es i m w = (refl, 
 begun_stacked trivia second b.PatternLambda level d t f fs ts n es i m w = (refl, refl, (refl, refl, (refl, m, w)))
 begun_stacked trivia second b.Stray level d t f fs ts n es i m w = (refl, m, w)
 
--- an operand of a level, or the end of the text
+-- the frames stay stacked when an operand of a level is read, or is missing at the end of the text
 operand_stacked : (trivia : Bool) (level d : ℕ) (f : Frame) (fs : List Frame) (ts xs : List Token) (n : ℕ) (es : List Fault)
     → may_hold (frame_kind f.position) OperandFrame ≡ true → IsStackedOn f.head f.position fs → AreStacked (operand_on trivia level d f fs ts xs n es).frames
 operand_stacked trivia level d f fs ts [] n es m w = w
@@ -111,7 +111,7 @@ operand_stacked trivia level d f fs ts (t ∷ us) n es m w =
     begun_stacked trivia (head_kind us) (operand_start_of level t.kind t.text (head_kind us) (second_kind us)) level d t f fs ts n es
     (operand_start_inner level t.kind t.text (head_kind us) (second_kind us)) m w
 
--- counted or not
+-- the same for an operand that is counted or not
 reading_stacked : (trivia : Bool) (level : ℕ) (counted : Bool) (f : Frame) (fs : List Frame) (ts : List Token) (n : ℕ) (es : List Fault)
     → may_hold (frame_kind f.position) OperandFrame ≡ true → IsStackedOn f.head f.position fs → AreStacked (reading trivia level counted f fs ts n es).frames
 reading_stacked trivia level true f fs ts n es m w =
@@ -120,7 +120,7 @@ reading_stacked trivia level true f fs ts n es m w =
     [ true ↦ w | false ↦ operand_stacked trivia level (suc f.depth) f fs ts (next_items trivia ts) n es m w ]
 reading_stacked trivia level false f fs ts n es m w = operand_stacked trivia level f.depth f fs ts (next_items trivia ts) n es m w
 
--- what is done at the innermost frame
+-- the frames stay stacked when an allowed action is taken
 perform_stacked : (trivia : Bool) (action : Action) (f : Frame) (fs : List Frame) (ts : List Token) (n : ℕ) (es : List Fault)
     → Allowed f.position (head_kind (next_items trivia ts)) action → IsStackedOn f.head f.position fs → AreStacked (perform trivia action f fs ts n es).frames
 perform_stacked trivia action f fs ts n es al w = by action al
@@ -163,7 +163,7 @@ perform_stacked trivia action f fs ts n es al w = by action al
         (refl, refl, instead f.head f.position (min_bp_of f.position) 15 fs al.1 w)
     by a.ApplyOr al = instead f.head f.position (min_bp_of f.position) 15 fs al.1 w
 
--- so it is after each step
+-- the frames stay stacked after each step
 pub step_stacked : (trivia : Bool) (m : Machine) → AreStacked m.frames → AreStacked (step trivia m).frames
 step_stacked trivia m w = by m.frames w
   where
@@ -174,6 +174,6 @@ step_stacked trivia m w = by m.frames w
         let near : Bool = touches m.prev_end (next_items trivia m.remaining) in
         perform_stacked trivia (action_at f.position next near) f fs m.remaining m.prev_end m.faults (allowed f.position next near) w
 
--- and where the text is about to be read
+-- the frames are stacked before the text is read
 pub initial_stacked : (ts : List Token) → AreStacked (initial_machine ts).frames
 initial_stacked ts = (refl, refl)

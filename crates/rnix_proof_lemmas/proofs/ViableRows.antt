@@ -1,4 +1,4 @@
--- What is read along a row that can end goes along rows that can; a complete row is complete by its children.
+-- A reading along a row that can end passes only rows that can. A complete row is complete by its children.
 use Rattle.std.proofs.Common.{◌≡◌, ℕ, true, false, List, [], ◌∷◌, ◌++◌, Option, Some, None, refl, ap, sym, ◌∙◌, subst}
 use Rattle.rnix_kinds.{specs.declared.kinds.SyntaxKind.{SyntaxKind, TheVariants.NODE_LITERAL}, proofs.AllKinds.implied}
 use Rattle.rnix_grammar.specs.{Fault.Fault, Tables.wanted_kinds, Rules.{Row, never, done, row, after, may_end, missing, run_at}, CompleteRows.{after_all, is_row}}
@@ -6,7 +6,7 @@ use Rattle.rnix_grammar.specs.AnnotatedForest.{Token, Note, Stray, Unwanted, Ext
 use Rattle.rnix_grammar.specs.Reads.{Reads, end, leaf, inner, missing_part, wrong, second, IsWrong}
 use Rattle.rnix_proof_lemmas.proofs.{Basics.true_is_not_false, ReachableRows.is_viable, RowKinds.has_row}
 
--- what is viable after a child was so before it
+-- a row that is viable after a child was viable before it
 pub viable_before : (r : Row) (k : SyntaxKind) → is_viable (after r k) ≡ true → is_viable r ≡ true
 viable_before never k h = h
 viable_before _ k h = refl
@@ -16,7 +16,7 @@ pub end_viable : (r : Row) → may_end r ≡ true → is_viable r ≡ true
 end_viable never h = h
 end_viable _ h = refl
 
--- so is one where something is missing, or a run stands
+-- so is a row in which a part is missing or a run is read
 missing_viable : (q r : Row) (e : Fault) → missing q ≡ Some (e, r) → is_viable q ≡ true
 missing_viable never r e h = absurd (cc)
 missing_viable _ r e h = refl
@@ -41,7 +41,7 @@ reads_viable {q = q} (missing_part {r = r} {e = e} hu hf hm hr h) l = missing_vi
 reads_viable {d = d} {q = q} {us = us} (wrong {r = r} {f = f} note ts hx hw hi h) l = wrong_viable note d q r ts (tokens_in f ++ us) hi (reads_viable h l)
 reads_viable (second hs ho h) l = refl
 
--- so a node that is complete is of a kind with rows
+-- a kind whose row is viable has rows
 viable_row : (k : SyntaxKind) → is_viable (row k) ≡ true → has_row k ≡ true
 viable_row = implied (λ k. is_viable (row k)) has_row refl
 
@@ -49,7 +49,7 @@ pub reads_row : {k : SyntaxKind} {d n : ℕ} {s : Row} {b : AnnotatedForest} {us
     → Reads k d n (row k) s b us f es → may_end s ≡ true → has_row k ≡ true
 reads_row {k} h w = viable_row k (reads_viable h (end_viable _ w))
 
--- nothing continues after no row, so what may end later is viable
+-- no children continue `never`
 pub nowhere : (ks : List SyntaxKind) → after_all never ks ≡ never
 nowhere [] = refl
 nowhere (k ∷ ks) = nowhere ks
@@ -58,11 +58,11 @@ pub later_viable : (r : Row) (ks : List SyntaxKind) → may_end (after_all r ks)
 later_viable never ks h = absurd (true_is_not_false (sym h ∙ ap may_end (nowhere ks)))
 later_viable _ ks h = refl
 
--- a kind with a row is one that has rows
+-- a node whose children are a complete row is of a kind that has rows
 pub complete_has_row : (k : SyntaxKind) (ks : List SyntaxKind) → is_row k ks ≡ true → has_row k ≡ true
 complete_has_row k ks h = viable_row k (later_viable (row k) ks h)
 
--- what a row is after its last part
+-- nothing is read after the last part of a row
 pub record Ended (f : AnnotatedForest) (es : List Fault) : Type 0 where
   pub no_trees : f ≡ blank
   pub faults : es ≡ []
@@ -70,7 +70,7 @@ pub record Ended (f : AnnotatedForest) (es : List Fault) : Type 0 where
 no_more : {A : Type 0} {r : Row} → r ≡ never → is_viable r ≡ true → A
 no_more e l = absurd (true_is_not_false (sym l ∙ ap is_viable e))
 
--- no error node is there
+-- no error node is read after the last part
 wrong_past : {A : Type 0} (note : Note) (d : ℕ) (r : Row) (ts us : List Token) → IsWrong note d done r ts us → is_viable r ≡ true → A
 wrong_past Stray d r ts us w l = no_more (sym w.3) l
 wrong_past (Unwanted until) d r ts us w l = absurd (cc)
@@ -78,7 +78,7 @@ wrong_past Extra d r ts us w l = absurd (cc)
 wrong_past DoubleBind d r ts us w l = absurd w
 wrong_past TooDeep d r ts us w l = no_more (sym w.3) l
 
--- nothing is there
+-- a reading that begins after the last part of a row is empty
 pub past_ends : {k : SyntaxKind} {d n : ℕ} {q s : Row} {b : AnnotatedForest} {us : List Token} {f : AnnotatedForest} {es : List Fault}
     → Reads k d n q s b us f es
     → q ≡ done → is_viable s ≡ true → Ended f es

@@ -10,7 +10,7 @@ use Rattle.rnix_proof_locality.specs.{Expressions.{Expression, is_expression_nod
 use Rattle.rnix_proof_locality.proofs.{StrictExpressions.{path_begins, IsStrict, AreStrict, strict_kind, root_strict}, PathsAlone.{path_before, paths_before}}
 use Rattle.rnix_grammar.specs.Grammar as G
 
--- the trees of a forest, over its tokens, are the forest
+-- no tokens of its own follow the trees of a forest
 beyond_own : (f : AnnotatedForest) (us : List Token) → HaveTokenKinds f → beyond (forget f) (tokens_in f ++ us) ≡ us
 beyond_own blank us v = refl
 beyond_own (token k t f) us v = beyond_own f us v.2
@@ -29,7 +29,7 @@ annotate_own (fault n c f) us v = absurd v
 annotate_alone : (f : AnnotatedForest) → HaveTokenKinds f → annotate (forget f) (tokens_in f) ≡ f
 annotate_alone f v = ap (annotate (forget f)) (sym (append-nil (tokens_in f))) ∙ annotate_own f [] v
 
--- and have them as leaves
+-- the trees of a forest yield its own tokens
 yields_own : (f : AnnotatedForest) → HaveTokenKinds f → yield (forget f) ≡ map lexeme_of (tokens_in f)
 yields_own blank v = refl
 yields_own (token k t f) v = ap (λ z. (z, t.text) ∷ yield (forget f)) (sym v.1) ∙ ap (λ z. lexeme_of t ∷ z) (yields_own f v.2)
@@ -38,7 +38,7 @@ yields_own (branch k c f) v =
     ∙ sym (map-append lexeme_of (tokens_in c) (tokens_in f))
 yields_own (fault n c f) v = absurd v
 
--- below a root it nests one deeper at most
+-- an expression that leaves room for one more level is within the limit below a root
 bounded : (w : Bool) (n : ℕ) → suc n ≤ depth_limit → max (if w then suc n else n) 0 ≤ depth_limit
 bounded true n h = omega (arith, h)
 bounded false n h = omega (arith, h)
@@ -47,7 +47,7 @@ nest_alone : (k : SyntaxKind) (c : Forest) → is_expression k ≡ true → suc 
 nest_alone NODE_PAT_ENTRY c e h = absurd (true_is_not_false (sym e))
 nest_alone k c e h = bounded (nests NODE_ROOT k) (nest k c) h
 
--- a strict expression before some items
+-- a strict expression is a derivation of its own items, whatever follows them
 derived : (k : SyntaxKind) (c : AnnotatedForest) (vs : List Token) → IsStrict k (forget c) → path_begins k (forget c) ≡ true
     → AreStrict (forget c) → HaveTokenKinds c → (if is_path k then is_joined c vs else true) ≡ true → ArePaths c vs
     → IsDerived (record { kind = k; children = c })
@@ -73,7 +73,7 @@ each_derived (branch k c f) vs s v a =
     (All-append IsDerived (expressions c) (expressions f) (each_derived c (tokens_in f ++ vs) s.2 v.0 a.1) (each_derived f vs s.3 v.1 a.2))
 each_derived (fault n c f) vs s v a = absurd v
 
--- and each of a derivation
+-- each expression of a derivation is a derivation of its own items
 pub derived_expressions : (t : Forest) (ts : List Token) → IsDerivation t ts → All IsDerived (expressions (annotate t ts))
 derived_expressions t ts d =
     let l = annotate_root t ts (expression_fine d.strict).tokens d.yields in

@@ -10,7 +10,7 @@ use Rattle.{rnix_grammar.specs.AnnotatedForest.{branch, one_branch}, rnix_proof_
 abbrev texts : AnnotatedForest → List (List ℕ)
 texts f = map (λ (e : Expression). flat_map (λ (t : Token). t.text) (own_items e)) (expressions f)
 
--- a token before a forest; no place matters here
+-- a token in front of a forest, with an empty range, since ranges do not matter here
 abbrev word : SyntaxKind → List ℕ → AnnotatedForest → AnnotatedForest
 word kind text f = token kind (record { kind = kind; text = text; start = 0; end = 0 }) f
 

@@ -1,10 +1,10 @@
--- Where the pieces of its paths touch, so it is with a forest alone, without the items after it.
+-- If the pieces of all paths of a forest touch before some items, they touch before fewer.
 use Rattle.std.proofs.{Common.{◌≡◌, ℕ, Bool, true, false, List, [], ◌∷◌, ◌++◌, refl, sym, subst, append_assoc, if◌then◌else◌, nat_eq}, lemmas.Bool.and_parts}
 use Rattle.{std.proofs.lemmas.Bool.and_from, rnix_grammar.specs.AnnotatedForest.{Token, AnnotatedForest, blank, token, branch, fault, tokens_in, forget}}
 use Rattle.rnix_grammar.specs.{AnnotatedForest.end_from, PathPieces.{goes_on_path, joins, joins_first, is_joined, is_path, ArePaths}}
 use Rattle.{rnix_proof_lemmas.proofs.Basics.true_is_not_false, rnix_proof_locality.proofs.StrictExpressions.{nodes_begin, AreStrict}}
 
--- no item continues a path where fewer items follow
+-- no item continues a path if fewer items follow
 stops_before : (n : ℕ) (us vs : List Token) → (if goes_on_path n (us ++ vs) then false else true) ≡ true → (if goes_on_path n us then false else true) ≡ true
 stops_before n [] vs h = refl
 stops_before n (u ∷ us) vs h = h
@@ -36,13 +36,13 @@ joined_before (token k t f) us vs b h = first_before t.end f us vs b h
 joined_before (branch k c f) us vs b h = refl
 joined_before (fault n c f) us vs b h = refl
 
--- a node, which is a path or not
+-- this holds for a node, whether it is a path or not
 pub path_before : (w : Bool) (c : AnnotatedForest) (us vs : List Token) → (if w then nodes_begin (forget c) else true) ≡ true
     → (if w then is_joined c (us ++ vs) else true) ≡ true → (if w then is_joined c us else true) ≡ true
 path_before true c us vs b h = joined_before c us vs b h
 path_before false c us vs b h = refl
 
--- and all paths of a forest
+-- this holds for all paths of a forest
 pub paths_before : (f : AnnotatedForest) (us vs : List Token) → AreStrict (forget f) → ArePaths f (us ++ vs) → ArePaths f us
 paths_before blank us vs s h = tt
 paths_before (token k t f) us vs s h = paths_before f us vs s h

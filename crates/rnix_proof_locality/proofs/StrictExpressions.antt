@@ -14,37 +14,37 @@ nodes_begin (leaf k t f) = nodes_begin f
 nodes_begin (node k (leaf j t c) f) = nodes_begin f
 nodes_begin (node k c f) = false
 
--- so do the interpolations of a path
+-- the interpolations of a path begin with tokens
 abbrev pub path_begins : SyntaxKind → Forest → Bool
 path_begins k c = if is_path k then nodes_begin c else true
 
--- an expression at some level, which leaves room for one more around it
+-- an expression of the grammar at some level, which leaves room for one level around it
 pub record IsStrict (k : SyntaxKind) (c : Forest) : Type 0 where
   pub level : ℕ
   pub strict : G.Strict level k c
   pub shallow : suc (nest k c) ≤ depth_limit
 
--- each expression of a forest is so, and each path
+-- each expression and each path of a forest is strict
 abbrev pub AreStrict : Forest → Type 0
 AreStrict empty = Unit {0}
 AreStrict (leaf k t f) = AreStrict f
 AreStrict (node k c f) = (is_expression_node k c ≡ true → IsStrict k c) × (path_begins k c ≡ true) × AreStrict c × AreStrict f
 
--- a forest below a node of a kind is so, where it leaves room for one more around it
+-- a forest below a node of the kind is strict, if it leaves room for one level around it
 record Row (p : SyntaxKind) (f : Forest) : Type 0 where
   each : suc (nest p f) ≤ depth_limit → AreStrict f
 
--- so are the children of a node of a kind
+-- the children of a node of the kind are strict
 record Inside (k : SyntaxKind) (c : Forest) : Type 0 where
   each : suc (depth_in k c) ≤ depth_limit → AreStrict c
 
--- what holds of an expression
+-- what holds of a strict expression
 record Holds (k : SyntaxKind) (c : Forest) : Type 0 where
   kind : is_expression k ≡ true
   begins : path_begins k c ≡ true
   inside : Inside k c
 
--- the room of a forest is that of its first node and that of the rest
+-- if a forest leaves room, so do its first node and the rest
 room_inside : (p k : SyntaxKind) (c f : Forest) → suc (nest p (node k c f)) ≤ depth_limit
     → (suc (depth_in k c) ≤ depth_limit) × (suc (nest p f) ≤ depth_limit)
 room_inside p k c f h =
@@ -53,7 +53,7 @@ room_inside p k c f h =
     let rest : 1 + nest p f ≤ depth_limit = w.1 in
     (omega (arith, here), omega (arith, rest))
 
--- an expression is no entry of a pattern
+-- an expression is no entry of a pattern, so all its children count
 depth_expression : (k : SyntaxKind) (c : Forest) → is_expression k ≡ true → depth_in k c ≡ nest k c
 depth_expression NODE_PAT_ENTRY c h = absurd (true_is_not_false (sym h))
 depth_expression _ c h = refl
@@ -64,14 +64,14 @@ row_end = record { each = λ h. tt }
 token_first : {p k : SyntaxKind} {t : List ℕ} {f : Forest} → Row p f → Row p (leaf k t f)
 token_first r = record { each = λ h. r.each h }
 
--- a node that is no expression, and no path
+-- a node that is neither an expression nor a path
 plain : {p k : SyntaxKind} {c f : Forest} → is_expression_node k c ≡ false → path_begins k c ≡ true → Inside k c → Row p f → Row p (node k c f)
 plain {p} {k} {c} {f} n b i r = record { each = whole }
   where
     whole : suc (nest p (node k c f)) ≤ depth_limit → AreStrict (node k c f)
     whole h = let w = room_inside p k c f h in (λ e. absurd (true_is_not_false (sym e ∙ n)), b, i.each w.0, r.each w.1)
 
--- an expression
+-- an operand is an expression of the grammar
 operand : {p k : SyntaxKind} {n : ℕ} {c f : Forest} → G.Strict n k c → Holds k c → Row p f → Row p (node k c f)
 operand {p} {k} {n} {c} {f} s g r = record { each = whole }
   where
@@ -81,7 +81,7 @@ operand {p} {k} {n} {c} {f} s g r = record { each = whole }
         let own : suc (nest k c) ≤ depth_limit = subst (λ d. suc d ≤ depth_limit) (depth_expression k c g.kind) w.0 in
         (λ e. record { level = n; strict = s; shallow = own }, g.begins, g.inside.each w.0, r.each w.1)
 
--- the children of a node, which is no entry of a pattern
+-- the children of a node that is no entry of a pattern
 inside : {k : SyntaxKind} {c : Forest} → depth_in k c ≡ nest k c → Row k c → Inside k c
 inside e r = record { each = λ h. r.each (subst (λ d. suc d ≤ depth_limit) e h) }
 
@@ -91,7 +91,7 @@ held i b e r = record { kind = i; begins = b; inside = inside e r }
 between : {p i j k : SyntaxKind} {n : ℕ} {c : Forest} {s t : List ℕ} → G.Strict n k c → Holds k c → Row p (leaf i s (node k c (leaf j t empty)))
 between h g = token_first (operand h g (token_first row_end))
 
--- a name, unless it is `or` or `__curPos`
+-- a name that is neither `or` nor `__curPos`
 neither : (a b : Bool) → (if a then false else (if b then false else true)) ≡ true → (a ≡ false) × (b ≡ false)
 neither true b h = absurd (true_is_not_false (sym h))
 neither false true h = absurd (true_is_not_false (sym h))
@@ -106,11 +106,11 @@ named_value t e =
 name_first : {p : SyntaxKind} {t : List ℕ} {f : Forest} → Row p f → Row p (G.name t f)
 name_first {p} {t} {f} r = record { each = λ h. (λ e. named_value t e, refl, tt, r.each (room_inside p NODE_IDENT (leaf TOKEN_IDENT t empty) f h).1) }
 
--- an entry of a pattern, after its name
+-- the children of an entry of a pattern, after its name
 entry_inside : {x : List ℕ} {f : Forest} → Row NODE_PAT_ENTRY f → Inside NODE_PAT_ENTRY (G.name x f)
 entry_inside {x} {f} r = record { each = λ h. (λ e. named_value x e, refl, tt, r.each h) }
 
--- paths
+-- the pieces of a path begin with tokens
 pieces_begin : {f : Forest} → G.PathPieces f → nodes_begin f ≡ true
 pieces_begin G.pieces_end = refl
 pieces_begin (G.piece h r) = pieces_begin r
@@ -225,17 +225,17 @@ mutual
   formal_inside (G.entry o) = entry_inside row_end
   formal_inside (G.default_entry o h) = entry_inside (token_first (operand h (strict_holds h) row_end))
 
--- an expression has the kind of one
+-- an expression of the grammar has the kind of an expression
 pub strict_kind : {n : ℕ} {k : SyntaxKind} {c : Forest} → G.Strict n k c → is_expression k ≡ true
 strict_kind s = (strict_holds s).kind
 
--- the root counts its expression
+-- the root counts its expression, so this leaves room for one level
 root_room : (k : SyntaxKind) (c : Forest) → is_expression k ≡ true → nest NODE_ROOT (node k c empty) ≤ depth_limit → suc (depth_in k c) ≤ depth_limit
 root_room k c e h =
     let w : suc 0 + depth_in k c ≤ depth_limit = (room NODE_ROOT k c empty 0 (omega (arith, h))).2 e in
     omega (arith, w)
 
--- so it is with a tree that nests no deeper than the limit
+-- each expression of a tree that nests within the limit is strict
 pub root_strict : {t : Forest} → G.IsExpression t → nest NODE_ROOT t ≤ depth_limit → AreStrict t
 root_strict (G.expression {k = k} {c = c} s) h =
     let g = strict_holds s in

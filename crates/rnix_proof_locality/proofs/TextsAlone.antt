@@ -8,12 +8,12 @@ use Rattle.rnix_parser.{specs.ReadAlike.items_of, proofs.{ParsedLemmas.all_follo
 use Rattle.{rnix_parser.proofs.Found.{annotate_derivation, derivation_reads}, rnix_proof_locality.specs.Expressions.{Expression, alone, own_items}}
 use Rattle.rnix_proof_locality.{specs.ReadAlone.{expressions_in, IsDerived, IsReadAsExpression}, proofs.DerivedExpressions.derived_expressions}
 
--- the same errors as none
+-- errors that are the same as none are none
 no_errors : (xs ys : List Token) (es : List Fault) → AreSameFaults xs ys [] es → es ≡ []
 no_errors xs ys [] h = refl
 no_errors xs ys (e ∷ es) h = absurd h
 
--- a text that has the items of a derivation
+-- a text whose items are like those of an expression that is a derivation is read as this expression
 pub read_as : (y : List ℕ) → AreRuled (tokens_of y) → (e : Expression) → IsDerived e → IsReadAsExpression y e
 read_as y ruled e d alike u es s =
     let l = annotate_derivation (alone e) (own_items e) d in
@@ -29,7 +29,7 @@ read_as y ruled e d alike u es s =
 pub read_each : (y : List ℕ) → AreRuled (tokens_of y) → (es : List Expression) → All (λ e. IsDerived e → IsReadAsExpression y e) es
 read_each y ruled es k d l = read_as y ruled (get_or es k d)
 
--- or of an expression in one
+-- the same for each expression of a derivation of a text
 pub read_parts : (x y : List ℕ) → AreRuled (tokens_of y) → (t : Tree) → IsDerivation (significant t.children) (items_of x)
     → All (IsReadAsExpression y) (expressions_in x t)
 read_parts x y ruled t d =

@@ -1,4 +1,4 @@
--- What is not so: the name `or` is not read alone as it is, and not each expression of a broken text is.
+-- Two laws that do not hold: the name `or` is not read alone as it is, and neither is each expression of a broken text.
 use Rattle.std.{proofs.Common.{◌≡◌, ◌≤◌, ◌<◌, ℕ, false, List, [], ◌∷◌, ◌++◌, refl, sym, subst, codes, arith}, specs.{List.All, Str.chars, Char.encode_utf8}}
 use Rattle.rnix_kinds.specs.Lexical.{Tokens.{tokens_of, normal_cut, cut_at, tokens_behind}, Texts.{space_len, begins_space, char_len}}
 use Rattle.rnix_kinds.specs.declared.kinds.SyntaxKind.{SyntaxKind, TheVariants.{TOKEN_ASSIGN, TOKEN_IDENT, TOKEN_INTEGER, TOKEN_L_BRACE, TOKEN_L_PAREN}}
@@ -12,7 +12,7 @@ use Rattle.rnix_proof_locality.specs.{Expressions.{Expression, expression_if, ex
 use Rattle.rnix_grammar.specs.Grammar as G
 use Rattle.rnix_proof_uniqueness.proofs.Examples as of
 
--- `or` is no expression
+-- `or` is no expression of the grammar
 or_atom : {s : List ℕ} → G.Atom NODE_IDENT (leaf TOKEN_IDENT s empty) → is_or s ≡ false
 or_atom (G.named o c) = o
 
@@ -30,7 +30,7 @@ nodes (token k t f) = nodes f
 nodes (branch k c f) = expression_if (is_expression k) (record { kind = k; children = c }) (nodes c ++ nodes f)
 nodes (fault n c f) = nodes f
 
--- so it is not: each of these nodes of a derivation is a derivation
+-- the law that each of these nodes of a derivation is a derivation
 abbrev NodesAreDerived : Type 0
 NodesAreDerived = (t : Forest) (ts : List Token) → IsDerivation t ts → All IsDerived (nodes (annotate t ts))
 
@@ -76,7 +76,7 @@ name_alone claim =
     let h : IsDerived name = claim set items set_derived 1 name second in
     true_is_not_false (or_alone h.strict)
 
--- `(a` is no expression
+-- `(a` is no expression of the grammar
 open_atom : {k : SyntaxKind} {c : Forest} {s : List ℕ} → G.Atom NODE_PAREN (leaf TOKEN_L_PAREN s (node k c empty)) → ⊥
 open_atom h = elim h [ ]
 
@@ -87,11 +87,11 @@ open_level (G.atom h) = open_atom h
 open_alone : {k : SyntaxKind} {c : Forest} {s : List ℕ} → G.IsExpression (node NODE_PAREN (leaf TOKEN_L_PAREN s (node k c empty)) empty) → ⊥
 open_alone (G.expression h) = open_level h
 
--- so it is not: the expressions of each reading are derivations, whatever its errors
+-- the law that the expressions of each reading are derivations, whatever its errors
 abbrev AllAreDerived : Type 0
 AllAreDerived = (f : AnnotatedForest) (faults : List Fault) → ReadsRoot f faults → All IsDerived (expressions f)
 
--- the expressions of a text that is read so
+-- then it would hold for the expressions of a text that is read so
 case_derived : AllAreDerived → (c : Case) → IsMade c → All IsDerived (expressions (trees_in c.right (items_of c)))
 case_derived claim c made =
     let r = has_reading (tokens_of c.text) in

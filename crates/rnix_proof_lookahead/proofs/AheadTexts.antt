@@ -1,4 +1,4 @@
--- Two texts that begin with the same items, after which one of the same kind follows.
+-- Two texts that begin with the same items and continue with an item of the same kind.
 use Rattle.std.proofs.Common.{◌≡◌, ℕ, List, take, drop, None, ap, sym, ◌∙◌, subst}
 use Rattle.{rnix_kinds.specs.Lexical.Tokens.tokens_of, rnix_proof_lemmas.proofs.SpelledLemmas.AreRuled, rnix_parser.specs.ReadAlike.items_of}
 use Rattle.rnix_grammar.specs.{AnnotatedForest.{Token, AnnotatedForest, tokens_in, without_trivia, placed_from, end_from}, Parsed.IsParsed}
@@ -7,7 +7,7 @@ use Rattle.rnix_parser.proofs.{ParsedLemmas.all_follows, OneReading.reading_item
 use Rattle.rnix_proof_lookahead.specs.{Completed.completed, ErrorsBefore.errors_before, AlikeStarts.{BeginAlike, AreNext}, ReadAhead.{AreCompletedAlike, HaveSameErrors}}
 use Rattle.rnix_proof_lookahead.proofs.SameTrees.{same_trees, same_errors}
 
--- they complete the same trees
+-- their shared items complete the same trees
 pub same_completed : (x y : List ℕ) → AreRuled (tokens_of x) → AreRuled (tokens_of y) → AreCompletedAlike x y
 same_completed x y a b k alike t u ds es r s =
     let p : IsParsed (tokens_of x) t ds = all_follows (tokens_of x) t ds a r in
@@ -24,7 +24,7 @@ same_completed x y a b k alike t u ds es r s =
 in_order : (x : List ℕ) → AreOrdered 0 (items_of x)
 in_order x = ordered_items 0 (placed_from 0 (tokens_of x)) (ordered_placed 0 (tokens_of x))
 
--- and have the same errors about unexpected items
+-- two texts have the same errors about unexpected items, up to a byte
 abbrev SameBefore : ℕ → List Token → List Token → Type 0
 SameBefore k ts us = (take k ts ≡ take k us) × AreNext (end_from 0 (take k ts)) (drop k ts) (drop k us)
 

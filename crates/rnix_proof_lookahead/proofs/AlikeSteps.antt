@@ -19,12 +19,12 @@ use Rattle.rnix_grammar.specs.declared.position.Position.TheVariants as p
 use Rattle.rnix_grammar.specs.declared.action.Action.TheVariants as a
 use Rattle.rnix_grammar.specs.declared.operand_start.OperandStart.TheVariants as b
 
--- the items after the first are fewer than all and one
+-- there are fewer items after the first one than all items and one
 tail_short : (us : List Token) → length (tail_of us) < suc (length us)
 tail_short [] = omega arith
 tail_short (u ∷ us) = omega arith
 
--- an item before others begins an operand
+-- an item with which an operand begins is consumed, so fewer items are left
 begun_short : (how : OperandStart) (level d : ℕ) (t v : Token) (f : Frame) (fs : List Frame) (us : List Token) (n : ℕ) (es : List Fault)
     → length (begun false how level d t f fs (v ∷ us) n es).remaining < suc (length us)
 begun_short b.LegacyLet level d t v f fs us n es = tail_short us
@@ -32,11 +32,11 @@ begun_short b.BoundLambda level d t v f fs us n es = tail_short us
 begun_short _ level d t v f fs us n es = omega arith
 
 module _ (k e : ℕ) (x y : Token) (xs ys : List Token) (kinds : x.kind ≡ y.kind) where
-  -- both are read alike, or part
+  -- two machines are read alike, or part
   abbrev Parts : Machine → Machine → Type 0
   Parts = Goes k e x y xs ys kinds
 
-  -- one of the other items is read in both
+  -- both machines have read one of the other items, so they part
   both_goes : (old : Forest) (now there : Machine) → leaf_count old ≡ k → IsKept old (x ∷ xs) now → IsKept old (y ∷ ys) there
       → length now.remaining < suc (length xs) → length there.remaining < suc (length ys) → (es : List Fault)
       → (AreFrom e (x ∷ xs) → IsLateStep e es now) → (AreFrom e (y ∷ ys) → IsLateStep e es there) → Parts now there
@@ -50,7 +50,7 @@ module _ (k e : ℕ) (x y : Token) (xs ys : List Token) (kinds : x.kind ≡ y.ki
         record { faults = now_late.faults ∙ sym there_late.faults; first = now_late.remaining; second = there_late.remaining };
   })
 
-  -- an operand begins with the first of the others
+  -- an operand that begins with the first of the other items is read alike, or both machines part
   operand_next : (level d : ℕ) (f : Frame) (fs : List Frame) (n : ℕ) (es : List Fault) → leaf_count (trees_in (f ∷ fs)) ≡ k
       → Parts (operand_on false level d f fs (x ∷ xs) (x ∷ xs) n es) (operand_on false level d f fs (y ∷ ys) (y ∷ ys) n es)
   operand_next level d f fs n es c =
@@ -62,7 +62,7 @@ module _ (k e : ℕ) (x y : Token) (xs ys : List Token) (kinds : x.kind ≡ y.ki
       (λ o. begun_late e how level d x f fs xs n es o.1 (stray_from e how x o.0))
       (λ o. begun_late e other level d y f fs ys n es o.1 (stray_from e other y o.0))
 
-  -- an operand begins with a shared item, and how is the same
+  -- an operand that begins with a shared item, in a given way, is read alike
   begun_shared : (how : OperandStart) (level d : ℕ) (t u : Token) (f : Frame) (fs : List Frame) (q : List Token) (n : ℕ) (es : List Fault)
       → end_from u.end q ≡ e
       → Parts (begun false how level d t f fs (t ∷ (u ∷ (q ++ x ∷ xs))) n es) (begun false how level d t f fs (t ∷ (u ∷ (q ++ y ∷ ys))) n es)
@@ -81,7 +81,7 @@ module _ (k e : ℕ) (x y : Token) (xs ys : List Token) (kinds : x.kind ≡ y.ki
     abbrev second_on : OperandStart → Machine
     second_on how = begun false how level d t f fs (t ∷ (y ∷ ys)) n es
 
-    -- how is the same
+    -- in the same way in both lists
     begun_last : (how : OperandStart) → Parts (first_on how) (second_on how)
     begun_last b.LegacyLet =
         let one : Forest = forget (leaf false NODE_LEGACY_LET (t ∷ [])) in
@@ -102,7 +102,7 @@ module _ (k e : ℕ) (x y : Token) (xs ys : List Token) (kinds : x.kind ≡ y.ki
         (λ o. o.1) (λ o. o.1)
     begun_last how = shared k e x y xs ys kinds (begun false how level d t f fs (t ∷ []) n es) h
 
-    -- or a brace opens a pattern in one and a set in the other
+    -- if `{` opens a pattern in one list and a set in the other, the errors before the end of the shared items are the same
     braces_late : (v w : Bool) → AreFrom e (x ∷ xs) → AreFrom e (y ∷ ys) → AreLateAlike e (first_on (braces v)) (second_on (braces w))
     braces_late true true o z = record { faults = refl; first = o; second = z }
     braces_late true false o z = record { faults = refl; first = o; second = z }
@@ -140,7 +140,7 @@ module _ (k e : ℕ) (x y : Token) (xs ys : List Token) (kinds : x.kind ≡ y.ki
         (second_on (operand_start_of level t.kind t.text (Some z) (head_kind ys)))) kinds
         (pair_last (head_kind xs) (head_kind ys) (third_counts level t.kind t.text (Some x.kind) (head_kind xs) (head_kind ys)))
 
-  -- an operand of a level
+  -- an operand of a level is read alike, or both machines part
   operand_goes : (level d : ℕ) (f : Frame) (fs : List Frame) (q : List Token) (n : ℕ) (es : List Fault)
       → leaf_count (trees_in (f ∷ fs)) + length q ≡ k → end_from n q ≡ e
       → Parts (operand_on false level d f fs (q ++ x ∷ xs) (q ++ x ∷ xs) n es) (operand_on false level d f fs (q ++ y ∷ ys) (q ++ y ∷ ys) n es)
@@ -153,7 +153,7 @@ module _ (k e : ℕ) (x y : Token) (xs ys : List Token) (kinds : x.kind ≡ y.ki
   operand_goes level d f fs (t ∷ (u ∷ (v ∷ q))) n es c h =
       begun_shared (operand_start_of level t.kind t.text (Some u.kind) (Some v.kind)) level d t u f fs (v ∷ q) n es h
 
-  -- counted or not
+  -- the same for an operand that is counted or not
   reading_goes : (level : ℕ) (counted : Bool) (f : Frame) (fs : List Frame) (q : List Token) (n : ℕ) (es : List Fault)
       → leaf_count (trees_in (f ∷ fs)) + length q ≡ k → end_from n q ≡ e
       → Parts (reading false level counted f fs (q ++ x ∷ xs) n es) (reading false level counted f fs (q ++ y ∷ ys) n es)
@@ -161,7 +161,7 @@ module _ (k e : ℕ) (x y : Token) (xs ys : List Token) (kinds : x.kind ≡ y.ki
       choices Parts (nat_le depth_limit f.depth) (limited_goes k e x y xs ys kinds f fs q n es c) (operand_goes level (suc f.depth) f fs q n es c h)
   reading_goes level false f fs q n es c h = operand_goes level f.depth f fs q n es c h
 
-  -- what is done at the innermost frame
+  -- the step of an action is the same for both lists, or both machines part
   pub perform_goes : (action : Action) (f : Frame) (fs : List Frame) (q : List Token) (n : ℕ) (es : List Fault)
       → leaf_count (trees_in (f ∷ fs)) + length q ≡ k → end_from n q ≡ e → Allowed f.position (head_kind (q ++ x ∷ xs)) action
       → Parts (perform false action f fs (q ++ x ∷ xs) n es) (perform false action f fs (q ++ y ∷ ys) n es)
@@ -170,7 +170,7 @@ module _ (k e : ℕ) (x y : Token) (xs ys : List Token) (kinds : x.kind ≡ y.ki
       one : (us : List Token) → length us < suc (length us)
       one us = omega arith
 
-      -- the action reads the first of the others
+      -- an action for the first of the other items reads it, or leaves the machine with the same items
       reads : (action : Action) (fs : List Frame) → leaf_count (trees_in (f ∷ fs)) + 0 ≡ k → Allowed f.position (Some x.kind) action
           → length (perform false action f fs (x ∷ xs) n es).remaining < suc (length xs)
           → length (perform false action f fs (y ∷ ys) n es).remaining < suc (length ys)

@@ -3,7 +3,7 @@ use Rattle.std.proofs.Common.{◌≡◌, ◌⊎◌, inl, inr, ℕ, Bool, true, f
 use Rattle.rnix_grammar.specs.{declared.expected_set.ExpectedSet.ExpectedSet, Tables.is_wanted, UnwantedRun.run_of, AnnotatedForest.{Token, end_from}}
 use Rattle.{rnix_proof_lemmas.specs.Machine.dropped, rnix_proof_lemmas.proofs.Basics.choice}
 
--- a run ends before the last of some items, or takes them all
+-- a run ends before the last of some items, or contains them all
 abbrev pub RunIn : ExpectedSet → List Token → Type 0
 RunIn until q =
     ((us : List Token) → run_of until (q ++ us) ≡ run_of until q) ⊎ ((us : List Token) → run_of until (q ++ us) ≡ q ++ run_of until us)
@@ -19,7 +19,7 @@ pub run_in : (until : ExpectedSet) (q : List Token) → RunIn until q
 run_in until [] = inr (λ us. refl)
 run_in until (t ∷ q) = run_turn until t q (is_wanted until t.kind) (run_in until q)
 
--- what a run leaves
+-- the items after a run that ends early are followed by the others
 pub dropped_more : (until : ExpectedSet) (q us : List Token) → dropped (run_of until q) (q ++ us) ≡ dropped (run_of until q) q ++ us
 dropped_more until [] us = refl
 dropped_more until (t ∷ q) us = choice (λ z. dropped z (t ∷ (q ++ us)) ≡ dropped z (t ∷ q) ++ us) (is_wanted until t.kind) refl (dropped_more until q us)

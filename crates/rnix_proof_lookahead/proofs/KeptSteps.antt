@@ -1,4 +1,4 @@
--- No step changes the trees that the items before the last one read have completed, and no item is lost.
+-- No step changes the trees that are complete before the last item read, and no item is lost.
 use Rattle.std.proofs.Common.{◌≡◌, ℕ, suc, ◌+◌, ◌≤◌, ◌<◌, Bool, true, false, List, [], ◌∷◌, length, refl, ap, sym, ◌∙◌, subst, arith, nat_le}
 use Rattle.rnix_kinds.specs.declared.kinds.SyntaxKind.{SyntaxKind, TheVariants.{NODE_ERROR, NODE_APPLY, NODE_IDENT, NODE_IDENT_PARAM}}
 use Rattle.rnix_kinds.specs.declared.kinds.SyntaxKind.TheVariants.{NODE_LEGACY_LET, NODE_PAT_BIND, NODE_PATTERN}
@@ -21,15 +21,15 @@ abbrev pub trees_in : List Frame → Forest
 trees_in [] = empty
 trees_in (f ∷ fs) = join (trees_in fs) (forget f.children)
 
--- what a machine with these trees and items left becomes
+-- a machine comes from one with these trees and items, with nothing lost or changed
 pub record IsKept (old : Forest) (ts : List Token) (next : Machine) : Type 0 where
-  -- each item is a leaf or left
+  -- each item is a leaf or is still left
   pub counts : leaf_count (trees_in next.frames) + length next.remaining ≡ leaf_count old + length ts
   pub shorter : length next.remaining ≤ length ts
-  -- the items that were read, without the last one or before another is read, have completed the same trees
+  -- the first items complete the same trees, if there are no more of them than before, and fewer than are read now
   pub same : (k : ℕ) → k ≤ leaf_count old → k < leaf_count (trees_in next.frames) → completed k (trees_in next.frames) ≡ completed k old
 
--- more trees are read
+-- a machine that has read more trees comes from the one before
 kept_more : (old x : Forest) (ts : List Token) (next : Machine) → trees_in next.frames ≡ join old x → leaf_count x + length next.remaining ≡ length ts
     → IsKept old ts next
 kept_more old x ts next e c =
@@ -40,7 +40,7 @@ kept_more old x ts next e c =
       same = λ k l m. ap (completed k) e ∙ completed_more k old x l;
     }
 
--- the last trees with some more become a node
+-- so does a machine in which the last trees, with some more, are a node
 kept_node : (p r x : Forest) (i : SyntaxKind) (ts : List Token) (next : Machine) → trees_in next.frames ≡ join p (node i (join r x) empty)
     → leaf_count x + length next.remaining ≡ length ts → IsKept (join p r) ts next
 kept_node p r x i ts next e c =
@@ -55,17 +55,17 @@ kept_node p r x i ts next e c =
           ap (completed k) e ∙ completed_node k p (join r x) i short ∙ ap (completed k) (sym (join_assoc p r x)) ∙ completed_more k (join p r) x l;
     }
 
--- nothing is read
+-- so does a machine that has read nothing
 kept_same : (old : Forest) (ts : List Token) (next : Machine) → trees_in next.frames ≡ old → next.remaining ≡ ts → IsKept old ts next
 kept_same old ts next e l =
     let none : length next.remaining ≡ length ts = ap length l in
     kept_more old empty ts next (e ∙ sym (join_empty old)) (omega (arith, none))
 
--- a forest grows
+-- more children are more trees at the end
 pub grown : (r : Forest) (f g : AnnotatedForest) → join r (forget (f ⊕ g)) ≡ join (join r (forget f)) (forget g)
 grown r f g = ap (join r) (forget-⊕ f g) ∙ sym (join_assoc r (forget f) (forget g))
 
--- items that are read are no longer left
+-- the item of a leaf is no longer left
 taken : (i : SyntaxKind) (ts : List Token) → leaf_count (forget (leaf false i ts)) + length (tail_of ts) ≡ length ts
 taken i [] = omega arith
 taken i (t ∷ ts) = omega arith
@@ -95,7 +95,7 @@ run_taken until [] = omega arith
 run_taken until (t ∷ ts) =
     choice (λ z. length z + length (dropped z (t ∷ ts)) ≡ suc (length ts)) (is_wanted until t.kind) (omega arith) (omega (arith, run_taken until ts))
 
--- a frame is complete
+-- completing a frame keeps the trees
 made_kept : (h : Head) (f g : Frame) (fs : List Frame) (ts : List Token) (n : ℕ) (es : List Fault)
     → IsKept (trees_in (f ∷ (g ∷ fs))) ts (machine (put g.position (g.children ⊕ made h f.children) g ∷ fs) ts n es)
 made_kept h f g fs ts n es = by h
@@ -129,7 +129,7 @@ entry_closed_kept : (f : Frame) (fs : List Frame) (ts : List Token) (n : ℕ) (e
 entry_closed_kept f [] ts n es = kept_same (trees_in (f ∷ [])) ts (entry_closed false f [] ts n es) refl refl
 entry_closed_kept f (g ∷ fs) ts n es = made_kept f.head f g fs ts n _
 
--- an operand begins
+-- beginning an operand keeps the trees
 pub begun_kept : (how : OperandStart) (level d : ℕ) (t : Token) (f : Frame) (fs : List Frame) (ts : List Token) (n : ℕ) (es : List Fault)
     → IsKept (trees_in (f ∷ fs)) ts (begun false how level d t f fs ts n es)
 begun_kept how level d t f fs ts n es = by how
@@ -137,7 +137,7 @@ begun_kept how level d t f fs ts n es = by how
     old : Forest
     old = trees_in (f ∷ fs)
 
-    -- after one frame that is empty, or two
+    -- an empty frame, or two, add no trees
     one : (x : Forest) → join (join old empty) x ≡ join old x
     one x = ap (λ z. join z x) (join_empty old)
 
@@ -166,13 +166,13 @@ begun_kept how level d t f fs ts n es = by how
         kept_more old (forget (one_fault Stray (leaf false NODE_ERROR ts))) ts (begun false b.Stray level d t f fs ts n es) refl
         (omega (arith, taken NODE_ERROR ts))
 
--- an operand of a level, or the end of the text
+-- reading an operand of a level, or missing it at the end of the text, keeps the trees
 operand_kept : (level d : ℕ) (f : Frame) (fs : List Frame) (ts : List Token) (n : ℕ) (es : List Fault)
     → IsKept (trees_in (f ∷ fs)) ts (operand_on false level d f fs ts ts n es)
 operand_kept level d f fs [] n es = kept_same (trees_in (f ∷ fs)) [] (operand_on false level d f fs [] [] n es) refl refl
 operand_kept level d f fs (t ∷ us) n es = begun_kept (operand_start_of level t.kind t.text (head_kind us) (second_kind us)) level d t f fs (t ∷ us) n es
 
--- all that is left is nested too deep
+-- putting everything left into one error node keeps the trees
 pub limited_kept : (f : Frame) (fs : List Frame) (ts : List Token) (n : ℕ) (es : List Fault) → IsKept (trees_in (f ∷ fs)) ts (limited false f fs ts n es)
 limited_kept f fs ts n es =
     kept_more (trees_in (f ∷ fs)) (forget (one_fault TooDeep (row_of ts))) ts (limited false f fs ts n es)
@@ -185,7 +185,7 @@ reading_kept level true f fs ts n es =
     choice (IsKept (trees_in (f ∷ fs)) ts) (nat_le depth_limit f.depth) (limited_kept f fs ts n es) (operand_kept level (suc f.depth) f fs ts n es)
 reading_kept level false f fs ts n es = operand_kept level f.depth f fs ts n es
 
--- what is done at the innermost frame
+-- each action keeps the trees
 pub perform_kept : (action : Action) (f : Frame) (fs : List Frame) (ts : List Token) (n : ℕ) (es : List Fault)
     → IsKept (trees_in (f ∷ fs)) ts (perform false action f fs ts n es)
 perform_kept action f fs ts n es = by action
@@ -193,7 +193,7 @@ perform_kept action f fs ts n es = by action
     old : Forest
     old = trees_in (f ∷ fs)
 
-    -- the frame gets more children
+    -- more children of the innermost frame keep the trees
     grows : (x : AnnotatedForest) (next : Machine) → trees_in next.frames ≡ join (trees_in fs) (forget (f.children ⊕ x))
         → leaf_count (forget x) + length next.remaining ≡ length ts → IsKept old ts next
     grows x next e c = kept_more old (forget x) ts next (e ∙ grown (trees_in fs) f.children x) c
@@ -231,7 +231,7 @@ perform_kept action f fs ts n es = by action
         (ap (λ z. join (trees_in fs) (node NODE_APPLY z empty)) (forget-⊕ f.children x)) (omega (arith, taken NODE_IDENT ts))
     by action = kept_same old ts (perform false action f fs ts n es) refl refl
 
--- each step
+-- each step keeps the trees
 pub step_kept : (now : Machine) → IsKept (trees_in now.frames) now.remaining (step false now)
 step_kept now = by now.frames
   where
@@ -239,7 +239,7 @@ step_kept now = by now.frames
     by [] = kept_same empty now.remaining (step_on false [] now.remaining now.prev_end now.faults) refl refl
     by (f ∷ fs) = perform_kept (action_at f.position (head_kind now.remaining) (touches now.prev_end now.remaining)) f fs now.remaining now.prev_end now.faults
 
--- some steps
+-- a run of steps keeps what the first items complete
 pub runs_kept : (k : ℕ) {now last : Machine} → Runs false now last → k < leaf_count (trees_in now.frames)
     → completed k (trees_in last.frames) ≡ completed k (trees_in now.frames)
 runs_kept k here l = refl

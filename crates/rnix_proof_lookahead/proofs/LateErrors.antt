@@ -1,4 +1,4 @@
--- Each step reports errors about unexpected items at the items that are left.
+-- Each step reports errors about unexpected items only at the items that are left.
 use Rattle.std.proofs.{Common.{◌≡◌, ℕ, suc, ◌≤◌, Bool, true, false, List, [], ◌∷◌, ◌++◌, Option, Some, None, refl, ap, sym, ◌∙◌, arith, nat_le, nat_lt, append_assoc, append-nil}, lemmas.Bool.Decides.nat_tests}
 use Rattle.rnix_kinds.specs.declared.kinds.SyntaxKind.TheVariants.{NODE_APPLY}
 use Rattle.rnix_grammar.specs.declared.{slot_table.TheConstants.APPLIED, action.Action.Action, operand_start.OperandStart.OperandStart}
@@ -16,13 +16,13 @@ use Rattle.rnix_grammar.specs.declared.position.Position.TheVariants as p
 use Rattle.rnix_grammar.specs.declared.action.Action.TheVariants as a
 use Rattle.rnix_grammar.specs.declared.operand_start.OperandStart.TheVariants as b
 
--- errors and more
+-- the errors before a byte in two joined lists are those in both
 pub errors_more : (m : ℕ) (ds es : List Fault) → errors_before m (ds ++ es) ≡ errors_before m ds ++ errors_before m es
 errors_more m [] es = refl
 errors_more m (d ∷ ds) es =
     ap (λ z. error_before m d ++ z) (errors_more m ds es) ∙ sym (append_assoc (error_before m d) (errors_before m ds) (errors_before m es))
 
--- that have none before the byte
+-- errors that do not begin before the byte add none to those before it
 none_more : (m : ℕ) (es ds : List Fault) → errors_before m ds ≡ [] → errors_before m (es ++ ds) ≡ errors_before m es
 none_more m es ds h = errors_more m es ds ∙ ap (λ z. errors_before m es ++ z) h ∙ append-nil (errors_before m es)
 
@@ -34,21 +34,21 @@ none_before m (extra a) h = ap (λ z. error_if z (extra (up_to m a)) ++ []) (not
 none_before m (unwanted kind a wanted) h = ap (λ z. error_if z (unwanted kind (up_to m a) wanted) ++ []) (not_before m a.start h)
 none_before m d h = refl
 
--- all that is left begins at the byte or after it, and the errors before it are the same as some
+-- everything left begins at the byte or after it, and the errors before the byte are unchanged
 pub record IsLateStep (m : ℕ) (es : List Fault) (next : Machine) : Type 0 where
   pub remaining : AreFrom m next.remaining
   pub faults : errors_before m next.faults ≡ errors_before m es
 
--- one more error
+-- one more error that begins at the byte or after it adds none
 pub more_late : (m : ℕ) (es : List Fault) (d : Fault) → BeginsFrom m d → errors_before m (es ++ d ∷ []) ≡ errors_before m es
 more_late m es d h = none_more m es (d ∷ []) (none_before m d h)
 
--- that of an entry that repeats a name
+-- the error of an entry that repeats a name adds none
 repeated_none : (m : ℕ) (name : Option Token) (before : AnnotatedForest) → errors_before m (repeated_if name before) ≡ []
 repeated_none m None before = refl
 repeated_none m (Some t) before = choice (λ z. errors_before m z ≡ []) (has_entry t.text before) refl refl
 
--- an operand begins
+-- beginning an operand adds none
 pub begun_late : (m : ℕ) (how : OperandStart) (level d : ℕ) (t : Token) (f : Frame) (fs : List Frame) (us : List Token) (n : ℕ) (es : List Fault)
     → AreFrom m us → StrayFrom m how t → IsLateStep m es (begun false how level d t f fs (t ∷ us) n es)
 begun_late m b.Stray level d t f fs us n es l s = record { remaining = l; faults = more_late m es (report Stray (t ∷ [])) s }
@@ -68,7 +68,7 @@ reading_late m level true f fs ts n es l =
     (operand_late m level (suc f.depth) f fs ts n es l)
 reading_late m level false f fs ts n es l = operand_late m level f.depth f fs ts n es l
 
--- what is done at the innermost frame
+-- each action adds none
 pub perform_late : (m : ℕ) (action : Action) (f : Frame) (fs : List Frame) (ts : List Token) (n : ℕ) (es : List Fault)
     → Allowed f.position (head_kind ts) action → AreFrom m ts → IsLateStep m es (perform false action f fs ts n es)
 perform_late m action f fs ts n es al l = by action fs al
@@ -101,7 +101,7 @@ perform_late m action f fs ts n es al l = by action fs al
     by _ [] al = assumption (l, from_tail m ts l)
     by _ (g ∷ fs) al = assumption (l, from_tail m ts l)
 
--- each step
+-- each step adds none
 pub step_late : (m : ℕ) (now : Machine) → AreFrom m now.remaining → IsLateStep m now.faults (step false now)
 step_late m now l = by now.frames
   where
@@ -112,7 +112,7 @@ step_late m now l = by now.frames
         perform_late m (action_at f.position (head_kind now.remaining) near) f fs now.remaining now.prev_end now.faults
         (allowed f.position (head_kind now.remaining) near) l
 
--- some steps
+-- a run of steps adds none
 pub runs_late : (m : ℕ) {now last : Machine} → Runs false now last → AreFrom m now.remaining → errors_before m last.faults ≡ errors_before m now.faults
 runs_late m here l = refl
 runs_late m (further {m = now} r) l =

@@ -1,4 +1,4 @@
--- What the first items of some texts complete, and what is not so: that nothing after them counts, or no touching.
+-- What the first items of some texts complete. Two laws that do not hold: that what follows the items does not matter, and that touching does not.
 use Rattle.std.proofs.Common.{◌≡◌, ℕ, Bool, true, false, List, [], ◌∷◌, ◌++◌, length, refl, ap, sym, codes}
 use Rattle.rnix_kinds.specs.declared.kinds.SyntaxKind.TheVariants.{TOKEN_COLON, TOKEN_IDENT, TOKEN_INTERPOL_END, TOKEN_INTERPOL_START}
 use Rattle.rnix_kinds.specs.declared.kinds.SyntaxKind.TheVariants.{TOKEN_L_PAREN, TOKEN_PATH_REL, TOKEN_R_PAREN, NODE_APPLY, NODE_IDENT, NODE_IDENT_PARAM, NODE_PAREN}
@@ -30,7 +30,7 @@ four = refl
 five : completed 5 call ≡ call
 five = refl
 
--- of an error at the bytes 2 to 9 the part before byte 5, and of one at byte 6 nothing
+-- only the part before byte 5 counts of an error from byte 2 to 9, and nothing of an error at byte 6
 cut : errors_before 5 (unwanted TOKEN_COLON (record { start = 2; end = 9 }) [] ∷ extra (record { start = 6; end = 7 }) ∷ [])
     ≡ unwanted TOKEN_COLON (record { start = 2; end = 5 }) [] ∷ []
 cut = refl
@@ -46,7 +46,7 @@ abbrev is_parameter : Forest → Bool
 is_parameter (node NODE_IDENT_PARAM c f) = true
 is_parameter f = false
 
--- so it is not: the first items complete the same trees whatever follows
+-- the law that the first items complete the same trees whatever follows
 abbrev DecidedByItems : Type 0
 DecidedByItems =
     (q : List Token) (x y : Token) (xs ys : List Token) (first second : Machine)
@@ -75,7 +75,7 @@ abbrev is_leaf : Forest → Bool
 is_leaf (leaf k t f) = true
 is_leaf f = false
 
--- so it is not: they complete the same trees if the same item follows
+-- the law that they complete the same trees if the same item follows, touching or not
 abbrev DecidedByNext : Type 0
 DecidedByNext =
     (q : List Token) (x y : Token) (xs ys : List Token) (first second : Machine) → lexeme_of x ≡ lexeme_of y

@@ -1,4 +1,4 @@
--- After `{` and before a name, `...` or `}`, whether a pattern or a set has begun: nothing is complete before the next item is read.
+-- After `{`, before a name, `...` or `}`, nothing is complete until the next item is read, whether a pattern or a set has begun.
 use Rattle.std.proofs.Common.{◌≡◌, inl, inr, ℕ, ◌+◌, ◌≤◌, Bool, true, false, List, ◌∷◌, length, refl, ap, ◌∙◌, subst, arith}
 use Rattle.rnix_kinds.specs.declared.kinds.SyntaxKind.TheVariants.{TOKEN_IDENT, TOKEN_R_BRACE, TOKEN_ELLIPSIS}
 use Rattle.rnix_green.specs.{Forest.{Forest, empty, leaf, join}, ForestCode.join_empty}
@@ -10,18 +10,18 @@ use Rattle.rnix_grammar.specs.declared.expected_set.ExpectedSet.TheVariants as u
 
 module _ (k level d : ℕ) (t : Token) (f : Frame) (fs : List Frame) (us : List Token) (n : ℕ) (es : List Fault)
     (count : leaf_count (trees_in (f ∷ fs)) + 1 ≡ k) where
-  -- the brace after all trees
+  -- all trees, with the brace
   abbrev pub with_brace : Forest
   with_brace = join (trees_in (f ∷ fs)) (leaf t.kind t.text empty)
 
   brace_count : leaf_count with_brace ≡ k
   brace_count = omega (arith, leaf_count-join (trees_in (f ∷ fs)) (leaf t.kind t.text empty), count)
 
-  -- after the opening brace
+  -- the machine after the opening brace, in a pattern or a set
   abbrev pub begun_braces : Bool → Token → Machine
   begun_braces pattern v = begun false (braces pattern) level d t f fs (t ∷ (v ∷ us)) n es
 
-  -- the next step reads an item
+  -- if the next step reads an item, the trees with the brace stay as they are
   one_leads : (now : Machine) (v : Token) → now.remaining ≡ v ∷ us → trees_in now.frames ≡ with_brace → length (step false now).remaining ≤ length us
       → Leads k (completed k with_brace) now
   one_leads now v e h l =
@@ -35,7 +35,7 @@ module _ (k level d : ℕ) (t : Token) (f : Frame) (fs : List Frame) (us : List 
   set_trees : join (join (trees_in (f ∷ fs)) empty) (leaf t.kind t.text empty) ≡ with_brace
   set_trees = ap (λ z. join z (leaf t.kind t.text empty)) (join_empty (trees_in (f ∷ fs)))
 
-  -- two nodes are open and empty
+  -- opening two empty nodes adds only the brace
   deep_trees : join (join (join (join (trees_in (f ∷ fs)) empty) (leaf t.kind t.text empty)) empty) empty ≡ with_brace
   deep_trees =
       join_empty (join (join (join (trees_in (f ∷ fs)) empty) (leaf t.kind t.text empty)) empty)
@@ -65,7 +65,7 @@ module _ (k level d : ℕ) (t : Token) (f : Frame) (fs : List Frame) (us : List 
       next_leads k (completed k with_brace) (begun_braces false dots) dots us refl (next_leads k (completed k with_brace) first dots us refl
       (one_leads (step false first) dots refl deep_trees short))
 
-  -- before such an item
+  -- before such an item, the trees with the brace stay as they are
   pub opened_leads : (pattern : Bool) (v : Token) → IsBeforeThird v.kind → Leads k (completed k with_brace) (begun_braces pattern v)
   opened_leads pattern v (inl e) =
       subst (λ (z : Token). Leads k (completed k with_brace) (begun_braces pattern z)) (item_is TOKEN_IDENT v e) (name_leads pattern v)

@@ -12,20 +12,20 @@ use Rattle.rnix_proof_lookahead.proofs.SpannedErrors.{none_remaining_from, dropp
 use Rattle.rnix_grammar.specs.declared.position.Position.TheVariants as p
 use Rattle.rnix_grammar.specs.declared.action.Action.TheVariants as a
 
--- a machine in which a run has been read
+-- the machine after a run
 abbrev ran : ExpectedSet → ℕ → Frame → List Frame → ℕ → List Fault → List Token → List Token → Machine
 ran until after f fs n es run ts =
     machine (put (p.InRow after) (f.children ⊕ one_fault (Unwanted until) (row_of run)) f ∷ fs) ts (end_from n run) (es ++ report (Unwanted until) run ∷ [])
 
 module _ (k e : ℕ) (x y : Token) (xs ys : List Token) (kinds : x.kind ≡ y.kind) where
-  -- both machines have come equally far, with the same items left before the others
+  -- both machines have the same frames and errors, and the same shared items left
   pub record IsShared (here there : Machine) : Type 0 where
     pub at : Machine
     pub first : here ≡ onto (x ∷ xs) at
     pub second : there ≡ onto (y ∷ ys) at
     pub ends : end_from at.prev_end at.remaining ≡ e
 
-  -- or what the first k items complete is known, and the same, and so are the errors before their end
+  -- or what the first `k` items complete is fixed and is the same in both, and so are the errors before the end of these items
   pub record IsParted (here there : Machine) : Type 0 where
     pub trees : Forest
     pub first : Leads k trees here
@@ -35,11 +35,11 @@ module _ (k e : ℕ) (x y : Token) (xs ys : List Token) (kinds : x.kind ≡ y.ki
   abbrev pub Goes : Machine → Machine → Type 0
   Goes here there = IsShared here there ⊎ IsParted here there
 
-  -- what one machine becomes over both lists
+  -- both are read alike if they come from one machine with the items of each list after it
   pub shared : (at : Machine) → end_from at.prev_end at.remaining ≡ e → Goes (onto (x ∷ xs) at) (onto (y ∷ ys) at)
   shared at h = inl (record { at = at; first = refl; second = refl; ends = h })
 
-  -- both have read more, with the same errors
+  -- both part if what the first items complete is fixed in both, with the same errors
   pub parted : (s : Forest) (here there : Machine) → Leads k s here → Leads k s there → here.faults ≡ there.faults
       → (AreFrom e (x ∷ xs) → AreFrom e here.remaining) → (AreFrom e (y ∷ ys) → AreFrom e there.remaining) → Goes here there
   parted s here there v w h f g = inr (record {
@@ -49,7 +49,7 @@ module _ (k e : ℕ) (x y : Token) (xs ys : List Token) (kinds : x.kind ≡ y.ki
     errors = λ o z. record { faults = ap (errors_before e) h; first = f (from_end e [] (x ∷ xs) o); second = g (from_end e [] (y ∷ ys) z) };
   })
 
-  -- an error node holds all items that are left
+  -- if an error node contains everything left, both part
   pub all_goes : (f : Frame) (fs : List Frame) (q : List Token) (n : ℕ) (es : List Fault) → leaf_count (trees_in (f ∷ fs)) + length q ≡ k
       → end_from n q ≡ e → Goes (perform false a.Extra f fs (q ++ x ∷ xs) n es) (perform false a.Extra f fs (q ++ y ∷ ys) n es)
   all_goes f fs q n es c h = inr (record {
@@ -77,20 +77,20 @@ module _ (k e : ℕ) (x y : Token) (xs ys : List Token) (kinds : x.kind ≡ y.ki
     abbrev run_on : List Token → Machine
     run_on us = perform false (a.Run until after) f fs (q ++ us) n es
 
-    -- ends before the last of the shared items
+    -- the run ends before the last shared item
     early : (us : List Token) → run_of until (q ++ us) ≡ run_of until q
         → run_on us ≡ onto us (ran until after f fs n es (run_of until q) (dropped (run_of until q) q))
     early us same =
         ap (λ z. ran until after f fs n es z (dropped z (q ++ us))) same
         ∙ ap (λ z. ran until after f fs n es (run_of until q) z) (dropped_more until q us)
 
-    -- ends with it
+    -- the run ends with the last shared item
     just : (us : List Token) → run_of until (q ++ us) ≡ q ++ run_of until us → run_of until us ≡ [] → run_on us ≡ onto us (ran until after f fs n es q [])
     just us same none =
         ap (λ z. ran until after f fs n es z (dropped z (q ++ us))) (same ∙ ap (λ z. q ++ z) none ∙ append-nil q)
         ∙ ap (λ z. ran until after f fs n es q z) (dropped_own q us)
 
-    -- or continues
+    -- the run continues after the shared items
     over : (v : Token) (us : List Token) → run_of until (q ++ v ∷ us) ≡ q ++ run_of until (v ∷ us) → is_wanted until v.kind ≡ false
         → Leads k (completed k (join (trees_in (f ∷ fs)) (forget (row_of q)))) (run_on (v ∷ us))
     over v us same w =
@@ -99,14 +99,14 @@ module _ (k e : ℕ) (x y : Token) (xs ys : List Token) (kinds : x.kind ≡ y.ki
         faulted_leads k (Unwanted until) f fs q (run_of until (v ∷ us)) (run_on (v ∷ us))
         (ap (λ z. join (trees_in fs) (forget (f.children ⊕ one_fault (Unwanted until) (row_of z)))) same) c some
 
-    -- the items that are left then
+    -- then everything left begins after them
     remaining_from : (v : Token) (us : List Token) → run_of until (q ++ v ∷ us) ≡ q ++ run_of until (v ∷ us) → AreOrdered e (v ∷ us)
         → AreFrom e (dropped (run_of until (q ++ v ∷ us)) (q ++ v ∷ us))
     remaining_from v us same o =
         subst (AreFrom e) (sym (ap (λ z. dropped z (q ++ v ∷ us)) same ∙ dropped_both q (run_of until (v ∷ us)) (v ∷ us)))
         (from_dropped e (run_of until (v ∷ us)) (v ∷ us) (from_end e [] (v ∷ us) o))
 
-    -- and the error
+    -- and the error of the run is the same up to their end
     run_error : (v : Token) (us : List Token) → run_of until (q ++ v ∷ us) ≡ q ++ run_of until (v ∷ us) → is_wanted until v.kind ≡ false
         → report (Unwanted until) (run_of until (q ++ v ∷ us)) ≡ report (Unwanted until) (q ++ v ∷ run_of until us)
     run_error v us same w = ap (report (Unwanted until)) (same ∙ ap (λ z. q ++ (if z then [] else v ∷ run_of until us)) w)

@@ -1,4 +1,4 @@
--- The first items of two lists that begin with them, and continue with an item of the same kind, complete the same trees.
+-- If two lists begin with the same items and continue with one of the same kind, these items complete the same trees.
 use Rattle.std.proofs.Common.{◌≡◌, inl, inr, ℕ, zero, suc, ◌+◌, Bool, false, List, [], ◌∷◌, ◌++◌, length, take, drop, Some, None, refl, ap, sym, ◌∙◌, subst, arith}
 use Rattle.std.proofs.{Common.{nat_eq, length-append}, lemmas.List.take-append-drop}
 use Rattle.rnix_grammar.specs.{Fault.Fault, Actions.action_at, Reads.ReadsRoot, AnnotatedForest.{Token, AnnotatedForest, tokens_in, forget, end_from, touches}}
@@ -13,7 +13,7 @@ use Rattle.rnix_proof_layout.proofs.{MovedItems.moved, Touch.last_kind}
 use Rattle.{rnix_proof_prefix.proofs.NewExtents.{behind, ReadsOn, reads_on}, rnix_proof_lookahead.proofs.NextExtents.{parts, next_touches, next_on}}
 
 module _ (k e : ℕ) (x y : Token) (xs ys : List Token) (kinds : x.kind ≡ y.kind) (touch : nat_eq x.start e ≡ nat_eq y.start e) where
-  -- the same frames over both lists
+  -- both machines take the same action at the first of the other items
   same_action : (f : Frame) (n : ℕ) → n ≡ e
       → action_at f.position (Some x.kind) (nat_eq x.start n) ≡ action_at f.position (Some y.kind) (nat_eq y.start n)
   same_action f n h =
@@ -34,7 +34,7 @@ module _ (k e : ℕ) (x y : Token) (xs ys : List Token) (kinds : x.kind ≡ y.ki
   not_over : (q : List Token) (z : Token) (zs : List Token) → q ++ z ∷ zs ≡ [] → ⊥
   not_over q z zs h = not_nil (none_right q (z ∷ zs) h)
 
-  -- each item is a leaf or left
+  -- each item is a leaf or is still left after the step
   counted : (fs : List Frame) (q : List Token) (n : ℕ) (es : List Fault) (at : Machine) → leaf_count (trees_in fs) + length q ≡ k
       → step false (machine fs (q ++ x ∷ xs) n es) ≡ machine at.frames (at.remaining ++ x ∷ xs) at.prev_end at.faults
       → leaf_count (trees_in at.frames) + length at.remaining ≡ k
@@ -46,7 +46,7 @@ module _ (k e : ℕ) (x y : Token) (xs ys : List Token) (kinds : x.kind ≡ y.ki
 
   -- both lists are read to their ends
   module _ (first second : Machine) (over : first.remaining ≡ []) (done : second.remaining ≡ []) where
-    -- the same trees are complete, and if the items are in order, the errors before the last of the shared items ends are the same
+    -- the same trees are complete; and if the items are in order, the errors before the end of the last shared item are the same
     pub record AreSame : Type 0 where
       pub trees : completed k (trees_in first.frames) ≡ completed k (trees_in second.frames)
       pub errors : AreOrdered e (x ∷ xs) → AreOrdered e (y ∷ ys) → errors_before e first.faults ≡ errors_before e second.faults
@@ -61,7 +61,7 @@ module _ (k e : ℕ) (x y : Token) (xs ys : List Token) (kinds : x.kind ≡ y.ki
           runs_late e r late.first ∙ late.faults ∙ sym (runs_late e s late.second);
     }
 
-    -- from where both have come equally far
+    -- this holds from machines with the same frames and shared items on
     pub together : {now other : Machine} (fs : List Frame) (q : List Token) (n : ℕ) (es : List Fault) → Runs false now first → Runs false other second
         → now ≡ machine fs (q ++ x ∷ xs) n es → other ≡ machine fs (q ++ y ∷ ys) n es → leaf_count (trees_in fs) + length q ≡ k → end_from n q ≡ e
         → AreSame
@@ -75,13 +75,13 @@ module _ (k e : ℕ) (x y : Token) (xs ys : List Token) (kinds : x.kind ≡ y.ki
         (counted fs q n es o.at c o.first) o.ends)
         (same_step fs q n es c l)
 
--- the first k of more items are k
+-- the first `k` of more than `k` items are `k` items
 took : (k : ℕ) (ts : List Token) (x : Token) (xs : List Token) → drop k ts ≡ x ∷ xs → length (take k ts) ≡ k
 took zero ts x xs h = refl
 took (suc k) [] x xs h = absurd (not_nil (sym h))
 took (suc k) (t ∷ ts) x xs h = ap suc (took k ts x xs h)
 
--- the steps that read items which begin with the first k of others, and continue alike
+-- the law for the steps over items that begin with the first `k` of other items, and continue with one of the same kind
 abbrev pub SameAt : ℕ → ℕ → AnnotatedForest → AnnotatedForest → List Fault → List Fault → List Token → List Token → Type 0
 SameAt k e f g ds es us vs =
     (completed k (forget f) ≡ completed k (forget g)) × (AreOrdered e us → AreOrdered e vs → errors_before e ds ≡ errors_before e es)
@@ -102,7 +102,7 @@ same_at k q f g ds es r s (x ∷ xs) (y ∷ ys) a b h c =
     (ap initial_machine a) (ap initial_machine b) (omega (arith, count)) refl in
     (same.trees, same.errors)
 
--- the trees are the same
+-- two readings of such items complete the same trees
 pub same_trees : (k : ℕ) (f g : AnnotatedForest) (ds es : List Fault) → ReadsRoot f ds → ReadsRoot g es
     → BeginAlike k None 0 0 (tokens_in f) (tokens_in g) → completed k (forget f) ≡ completed k (forget g)
 same_trees k f g ds es r s alike =
@@ -116,12 +116,12 @@ same_trees k f g ds es r s alike =
     (same_at k q f there.trees ds there.faults r there.reads (drop k ts) (moved others (behind near (end_from 0 q) others)) (sym (take-append-drop k ts))
     there.all (next_on (last_kind None q) (end_from 0 q) end (drop k ts) others h.1) (took k ts)).0 ∙ ap (completed k) there.same
 
--- items after others in order
+-- items that follow others in order are in order
 ordered_behind : (n : ℕ) (q us : List Token) → AreOrdered n (q ++ us) → AreOrdered (end_from n q) us
 ordered_behind n [] us o = o
 ordered_behind n (t ∷ q) us o = ordered_behind t.end q us o.2
 
--- and of items at the same places also the errors before the first of the others
+-- if the shared items have the same ranges, the errors before their end are the same too
 pub same_errors : (k : ℕ) (f g : AnnotatedForest) (ds es : List Fault) → ReadsRoot f ds → ReadsRoot g es
     → AreOrdered 0 (tokens_in f) → AreOrdered 0 (tokens_in g)
     → take k (tokens_in f) ≡ take k (tokens_in g) → AreNext (end_from 0 (take k (tokens_in f))) (drop k (tokens_in f)) (drop k (tokens_in g))

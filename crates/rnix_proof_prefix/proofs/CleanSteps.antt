@@ -1,4 +1,4 @@
--- No step takes an error back, nor closes a frame that has one to report without its report: where the end has none, there was none before.
+-- No step removes an error, or closes a frame with an error to report without reporting it. So if there are no errors at the end, there were none before.
 use Rattle.std.proofs.Common.{◌≡◌, ℕ, suc, Bool, true, false, List, [], ◌∷◌, ◌++◌, Option, refl, ap, sym, ◌∙◌, subst, if◌then◌else◌, nat_le}
 use Rattle.rnix_kinds.specs.declared.kinds.SyntaxKind.{SyntaxKind, TheVariants.{NODE_APPLY, NODE_IDENT, NODE_PAT_ENTRY}}
 use Rattle.rnix_grammar.specs.{declared.{slot_table.TheConstants.APPLIED, action.Action.Action, operand_start.OperandStart.OperandStart}, Fault.{Fault, unexpected_eof}}
@@ -22,16 +22,16 @@ IsClean (Node k) trees below = Unit {0}
 IsClean SecondBind trees below = ⊥
 IsClean Operand trees below = Unit {0}
 
--- so it is with all frames
+-- no open frame has an error to report
 abbrev pub AreClean : List Frame → Type 0
 AreClean [] = Unit {0}
 AreClean (f ∷ fs) = IsClean f.head f.children (row_below fs) × AreClean fs
 
--- and there is no error so far
+-- there is no error so far, and none to report
 abbrev pub HasNone : Machine → Type 0
 HasNone now = AreClean now.frames × (now.faults ≡ [])
 
--- a forest that is shorter has no more to report
+-- if a longer forest has nothing to report, neither has a shorter one
 fewer : (trees x below : AnnotatedForest) → repeated below (trees ⊕ x) ≡ [] → repeated below trees ≡ []
 fewer (branch NODE_IDENT c f) x below h = h
 fewer _ x below h = refl
@@ -41,7 +41,7 @@ clean_less (Node NODE_PAT_ENTRY) trees x below w = fewer trees x below w
 clean_less SecondBind trees x below w = w
 clean_less _ trees x below w = tt
 
--- entries and second names alone have something to report
+-- only entries of patterns and second names have anything to report
 abbrev is_quiet : FrameKind → Bool
 is_quiet Entry = false
 is_quiet SecondBindFrame = false
@@ -52,22 +52,22 @@ quiet (Node NODE_PAT_ENTRY) trees below e = absurd (true_is_not_false (sym e))
 quiet SecondBind trees below e = absurd (true_is_not_false (sym e))
 quiet _ trees below e = tt
 
--- what has no errors in the end had none
+-- if a list with one more error is empty, so is the list
 no_error : (es : List Fault) (e : Fault) → es ++ e ∷ [] ≡ [] → es ≡ []
 no_error es e h = none_remaining es (e ∷ []) h
 
--- a frame is complete
+-- completing a frame leaves no error and nothing to report only if there was none
 closed_clean : (f : Frame) (fs : List Frame) (ts : List Token) (n : ℕ) (es : List Fault) → IsClean f.head f.children (row_below fs)
     → HasNone (closed f fs ts n es) → HasNone (machine (f ∷ fs) ts n es)
 closed_clean f [] ts n es c w = w
 closed_clean f (g ∷ fs) ts n es c w = ((c, (clean_less g.head g.children (made f.head f.children) (row_below fs) w.0.0, w.0.1)), w.1)
 
--- its errors
+-- completing a frame adds no errors by itself
 closed_faults : (f : Frame) (fs : List Frame) (ts : List Token) (n : ℕ) (es : List Fault) → (closed f fs ts n es).faults ≡ es
 closed_faults f [] ts n es = refl
 closed_faults f (g ∷ fs) ts n es = refl
 
--- an operand begins
+-- this holds for beginning an operand
 begun_clean : (how : OperandStart) (level d : ℕ) (t : Token) (f : Frame) (fs : List Frame) (ts : List Token) (n : ℕ) (es : List Fault)
     → HasNone (begun false how level d t f fs ts n es) → HasNone (machine (f ∷ fs) ts n es)
 begun_clean b.Stray level d t f fs ts n es w = (w.0.1, no_error es (report Stray (t ∷ [])) w.1)
@@ -89,7 +89,7 @@ reading_clean level true f fs ts n es w =
     ]) w
 reading_clean level false f fs ts n es w = operand_clean level f.depth f fs ts n es w
 
--- an entry of a pattern is complete
+-- this holds for completing an entry of a pattern
 entry_closed_clean : (f : Frame) (fs : List Frame) (ts : List Token) (n : ℕ) (es : List Fault) → f.head ≡ Node NODE_PAT_ENTRY
     → HasNone (entry_closed false f fs ts n es) → HasNone (machine (f ∷ fs) ts n es)
 entry_closed_clean f [] ts n es e w = w
@@ -99,7 +99,7 @@ entry_closed_clean f (g ∷ fs) ts n es e w =
     closed_clean f (g ∷ fs) ts n (es ++ repeated g.children f.children) (subst (λ h. IsClean h f.children g.children) (sym e) none) w in
     (v.0, none_remaining es (repeated g.children f.children) v.1)
 
--- what is done at the innermost frame
+-- this holds for each action
 perform_clean : (action : Action) (f : Frame) (fs : List Frame) (ts : List Token) (n : ℕ) (es : List Fault)
     → Allowed f.position (head_kind ts) action → IsStackedOn f.head f.position fs → HasNone (perform false action f fs ts n es)
     → HasNone (machine (f ∷ fs) ts n es)
@@ -134,10 +134,10 @@ perform_clean action f fs ts n es al st w = by action al w
         (opened Operand (p.AfterOperand (min_bp_of f.position) 15) f.depth blank ∷ fs) ts n es w in
         ((quiet_at al.1 refl, v.0.1.1), v.1)
     by a.ApplyOr al w = ((quiet_at al.1 refl, w.0.1), w.1)
-    -- what opens
+    -- this holds for opening a node or a second name
     by _ al w = (w.0.1, w.1)
 
--- each step
+-- if there is no error after a step, there was none before it
 pub clean_step : (now : Machine) → AreStacked now.frames → HasNone (step false now) → HasNone now
 clean_step now k w = by now.frames k w
   where
@@ -149,12 +149,12 @@ clean_step now k w = by now.frames k w
         let near : Bool = touches now.prev_end now.remaining in
         perform_clean (action_at f.position next near) f fs now.remaining now.prev_end now.faults (allowed f.position next near) k w
 
--- some steps
+-- if there is no error after a run of steps, there was none before it
 pub clean_runs : {now last : Machine} → Runs false now last → AreStacked now.frames → HasNone last → HasNone now
 clean_runs here k w = w
 clean_runs (further {m = now} r) k w = clean_step now k (clean_runs r (step_stacked false now k) w)
 
--- frames that are begun, with nothing to report, have nothing to report before any byte
+-- a frame that has nothing to report has nothing to report before any byte
 clean_late : (m : ℕ) (h : Head) (trees below : AnnotatedForest) → IsClean h trees below → IsLate 0 h trees below → IsLate m h trees below
 clean_late m (Node NODE_PAT_ENTRY) trees below c w =
     (w.0, w.1, subst (BeginAllFrom m) (sym (ap (λ z. repeated_if z below) (sym w.1) ∙ c)) tt)

@@ -1,4 +1,4 @@
--- What open frames still have to report, and where these errors begin.
+-- What open frames have to report, and where these errors will begin.
 use Rattle.std.proofs.Common.{◌≡◌, ℕ, ◌≤◌, Bool, true, false, List, [], ◌∷◌, ◌++◌, Some, refl, ap, sym, ◌∙◌, subst}
 use Rattle.rnix_kinds.specs.declared.kinds.SyntaxKind.{SyntaxKind, TheVariants.{NODE_IDENT, NODE_PAT_ENTRY, NODE_ROOT}}
 use Rattle.rnix_grammar.specs.{declared.{position.Position.Position, expected_set.ExpectedSet.ExpectedSet}, Fault.Fault, Tables.stops, UnwantedRun.run_of}
@@ -9,12 +9,12 @@ use Rattle.rnix_proof_lemmas.specs.{Allowed.is_there, FrameKinds.{FrameKind, Ent
 use Rattle.rnix_proof_lemmas.{specs.FrameKinds.{frame_kind_of_node, IsStackedOn}, proofs.Basics.{true_is_not_false, choice}}
 use Rattle.{rnix_proof_lemmas.proofs.{AnnotatedForestLemmas.tokens_in-⊕, UnwantedRuns.run_begins}, rnix_proof_prefix.specs.Prefix.{BeginsFrom, BeginAllFrom}}
 
--- all tokens begin at a byte or after it
+-- all tokens begin at the byte or after it
 abbrev pub AreFrom : ℕ → List Token → Type 0
 AreFrom m [] = Unit {0}
 AreFrom m (t ∷ ts) = (m ≤ t.start) × AreFrom m ts
 
--- there is a first token, and it begins there
+-- there is a first token, and it begins at the byte or after it
 abbrev pub StartsFrom : ℕ → List Token → Type 0
 StartsFrom m [] = ⊥
 StartsFrom m (t ∷ ts) = m ≤ t.start
@@ -31,17 +31,17 @@ pub from_dropped : (m : ℕ) (run ts : List Token) → AreFrom m ts → AreFrom 
 from_dropped m [] ts h = h
 from_dropped m (x ∷ xs) ts h = from_dropped m xs (tail_of ts) (from_tail m ts h)
 
--- the next item
+-- this holds for the next item, if there is one
 pub starts_there : (m : ℕ) (ts : List Token) → is_there (head_kind ts) ≡ true → AreFrom m ts → StartsFrom m ts
 starts_there m [] e h = absurd (true_is_not_false (sym e))
 starts_there m (t ∷ ts) e h = h.0
 
--- a run of items
+-- this holds for a run that begins with the next item
 pub starts_run : (m : ℕ) (until : ExpectedSet) (ts : List Token) → stops until (head_kind ts) ≡ false → AreFrom m ts → StartsFrom m (run_of until ts)
 starts_run m until [] e h = absurd (true_is_not_false e)
 starts_run m until (t ∷ ts) e h = subst (StartsFrom m) (sym (run_begins until t ts e)) h.0
 
--- the error of an error node
+-- the error of an error node begins where its first token does
 pub report_from : (m : ℕ) (note : Note) (ts : List Token) → StartsFrom m ts → BeginsFrom m (report note ts)
 report_from m note [] h = absurd h
 report_from m TooDeep (t ∷ ts) h = tt
@@ -56,30 +56,30 @@ abbrev pub row_below : List Frame → AnnotatedForest
 row_below [] = blank
 row_below (g ∷ fs) = g.children
 
--- what an open frame has to report begins at a byte or after it: an entry of a pattern if it repeats a name, a second name in any case
+-- what an open frame has to report begins at the byte or after it: an entry of a pattern if it repeats a name, a second name in any case
 abbrev pub IsLate : ℕ → Head → AnnotatedForest → AnnotatedForest → Type 0
 IsLate m (Node NODE_PAT_ENTRY) trees below = (t : Token) × (entry_name trees ≡ Some t) × BeginAllFrom m (repeated_if (Some t) below)
 IsLate m (Node k) trees below = Unit {0}
 IsLate m SecondBind trees below = StartsFrom m (tokens_in trees)
 IsLate m Operand trees below = Unit {0}
 
--- so it is with all frames
+-- this holds for all frames
 abbrev pub AreLate : ℕ → List Frame → Type 0
 AreLate m [] = Unit {0}
 AreLate m (f ∷ fs) = IsLate m f.head f.children (row_below fs) × AreLate m fs
 
--- so it is with all that is left, all that is open, and all errors so far
+-- this holds for everything that is left, everything that is open, and all errors so far
 pub record HasLate (m : ℕ) (now : Machine) : Type 0 where
   pub remaining : AreFrom m now.remaining
   pub frames : AreLate m now.frames
   pub faults : BeginAllFrom m now.faults
 
--- the name of an entry stays
+-- an entry with more trees keeps its name
 entry_name-⊕ : (f g : AnnotatedForest) (t : Token) → entry_name f ≡ Some t → entry_name (f ⊕ g) ≡ Some t
 entry_name-⊕ (branch NODE_IDENT c f) g t e = e
 entry_name-⊕ _ g t e = absurd (cc)
 
--- a forest that grows has the same to report
+-- a frame with more children has the same to report
 pub late_more : (m : ℕ) (h : Head) (trees x below : AnnotatedForest) → IsLate m h trees below → IsLate m h (trees ⊕ x) below
 late_more m (Node NODE_PAT_ENTRY) trees x below w = (w.0, entry_name-⊕ trees x w.0 w.1, w.2)
 late_more m SecondBind trees x below w = subst (StartsFrom m) (sym (tokens_in-⊕ trees x)) (starts_more m (tokens_in trees) (tokens_in x) w)
@@ -90,18 +90,18 @@ pub plain_late : (m : ℕ) (k : SyntaxKind) (trees below : AnnotatedForest) → 
 plain_late m NODE_PAT_ENTRY trees below e = absurd (cc)
 plain_late m k trees below e = tt
 
--- an entry opens with the next item
+-- an entry that opens with the next item has nothing to report before it
 pub entry_late : (m : ℕ) (ts : List Token) (below : AnnotatedForest) → StartsFrom m ts
     → IsLate m (Node NODE_PAT_ENTRY) (one_branch NODE_IDENT (leaf false NODE_IDENT ts)) below
 entry_late m [] below h = absurd h
 entry_late m (t ∷ ts) below h = (t, refl, choice (BeginAllFrom m) (has_entry t.text below) (h, tt) tt)
 
--- a second name opens with the next item
+-- a second name that opens with the next item has nothing to report before it
 pub second_late : (m : ℕ) (k : SyntaxKind) (ts : List Token) → StartsFrom m ts → StartsFrom m (tokens_in (leaf false k ts))
 second_late m k [] h = absurd h
 second_late m k (t ∷ ts) h = h
 
--- heads by the frame kinds of their positions
+-- the head of a frame has the frame kind of its position
 pub head_frame : (head : Head) (next_position : Position) (fs : List Frame) → IsStackedOn head next_position fs
     → frame_kind_of_head head ≡ frame_kind next_position
 head_frame head next_position [] w = w.0
@@ -124,14 +124,14 @@ pub head_entry : (h : Head) → frame_kind_of_head h ≡ Entry → h ≡ Node NO
 head_entry (Node NODE_PAT_ENTRY) e = refl
 head_entry _ e = cc
 
--- what an entry reports as it closes
+-- what an entry reports when it closes begins at the byte or after it
 pub entry_reports : (m : ℕ) (h : Head) (trees below : AnnotatedForest) → frame_kind_of_head h ≡ Entry → IsLate m h trees below
     → BeginAllFrom m (repeated below trees)
 entry_reports m h trees below e w =
     let v : IsLate m (Node NODE_PAT_ENTRY) trees below = subst (λ z. IsLate m z trees below) (head_entry h e) w in
     subst (λ z. BeginAllFrom m (repeated_if z below)) (sym v.1) v.2
 
--- what a second name reports as it closes
+-- what a second name reports when it closes begins at the byte or after it
 pub second_reports : (m : ℕ) (h : Head) (trees below : AnnotatedForest) → frame_kind_of_head h ≡ SecondBindFrame → IsLate m h trees below
     → BeginsFrom m (report DoubleBind (tokens_in trees))
 second_reports m h trees below e w = report_from m DoubleBind (tokens_in trees) (subst (λ z. IsLate m z trees below) (head_second h e) w)

@@ -1,4 +1,4 @@
--- Each step reports errors, and opens frames that have some to report, at the items that are left.
+-- Each step reports errors, and opens frames that have some to report, only at the items that are left.
 use Rattle.std.proofs.Common.{ℕ, suc, ◌≤◌, Bool, true, false, List, [], ◌∷◌, ◌++◌, Option, ap, ◌∙◌, nat_le}
 use Rattle.rnix_kinds.specs.declared.kinds.SyntaxKind.{SyntaxKind, TheVariants.{NODE_ERROR, NODE_APPLY}}
 use Rattle.rnix_grammar.specs.{declared.{position.Position.Position, slot_table.TheConstants.APPLIED, action.Action.Action, operand_start.OperandStart.OperandStart}, Fault.Fault}
@@ -15,7 +15,7 @@ use Rattle.rnix_grammar.specs.declared.position.Position.TheVariants as p
 use Rattle.rnix_grammar.specs.declared.action.Action.TheVariants as a
 use Rattle.rnix_grammar.specs.declared.operand_start.OperandStart.TheVariants as b
 
--- an item that begins no operand begins at a byte or after it
+-- a stray item begins at the byte or after it
 abbrev pub StrayFrom : ℕ → OperandStart → Token → Type 0
 StrayFrom m b.Stray t = m ≤ t.start
 StrayFrom m how t = Unit {0}
@@ -24,14 +24,14 @@ pub stray_from : (m : ℕ) (how : OperandStart) (t : Token) → m ≤ t.start �
 stray_from m b.Stray t h = h
 stray_from m _ t h = tt
 
--- a frame is complete
+-- completing a frame leaves everything at the byte or after it
 closed_late : (m : ℕ) (f : Frame) (fs : List Frame) (ts : List Token) (n : ℕ) (es : List Fault)
     → AreFrom m ts → AreLate m (f ∷ fs) → BeginAllFrom m es → HasLate m (closed f fs ts n es)
 closed_late m f [] ts n es l w e = record { remaining = l; frames = w; faults = e }
 closed_late m f (g ∷ fs) ts n es l w e =
     record { remaining = l; frames = (late_more m g.head g.children (made f.head f.children) (row_below fs) w.1.0, w.1.1); faults = e }
 
--- an operand begins with the next item
+-- so does beginning an operand with the next item
 pub begun_late : (m : ℕ) (second : Option SyntaxKind) (how : OperandStart) (level d : ℕ) (t : Token) (f : Frame) (fs : List Frame) (us : List Token) (n : ℕ)
     (es : List Fault) → BeginsInner second how → StrayFrom m how t → AreFrom m us → AreLate m (f ∷ fs) → BeginAllFrom m es
     → HasLate m (begun false how level d t f fs (t ∷ us) n es)
@@ -41,7 +41,7 @@ begun_late m second b.Stray level d t f fs us n es i s l w e =
     record { remaining = l; frames = (tt, w); faults = more_from m es (report Stray (t ∷ []) ∷ []) e (s, tt) }
 begun_late m second _ level d t f fs us n es i s l w e = assumption (l, from_tail m us l)
 
--- an operand of a level, or the end of the text
+-- so does reading an operand of a level, or missing it at the end of the text
 operand_late : (m level d : ℕ) (f : Frame) (fs : List Frame) (ts : List Token) (n : ℕ) (es : List Fault)
     → AreFrom m ts → AreLate m (f ∷ fs) → BeginAllFrom m es → HasLate m (operand_on false level d f fs ts ts n es)
 operand_late m level d f fs [] n es l w e = record { remaining = l; frames = w; faults = more_from m es (unexpected_eof ∷ []) e (tt, tt) }
@@ -50,7 +50,7 @@ operand_late m level d f fs (t ∷ us) n es l w e =
     begun_late m (head_kind us) how level d t f fs us n es (operand_start_inner level t.kind t.text (head_kind us) (second_kind us))
     (stray_from m how t l.0) l.1 w e
 
--- all that is left is nested too deep
+-- so does putting everything left into one error node
 limited_late : (m : ℕ) (f : Frame) (fs : List Frame) (ts : List Token) (n : ℕ) (es : List Fault)
     → AreFrom m ts → AreLate m (f ∷ fs) → BeginAllFrom m es → HasLate m (limited false f fs ts n es)
 limited_late m f fs ts n es l w e = record {
@@ -65,20 +65,20 @@ reading_late m level true f fs ts n es l w e =
     choice (HasLate m) (nat_le depth_limit f.depth) (limited_late m f fs ts n es l w e) (operand_late m level (suc f.depth) f fs ts n es l w e)
 reading_late m level false f fs ts n es l w e = operand_late m level f.depth f fs ts n es l w e
 
--- an entry of a pattern is complete
+-- so does completing an entry of a pattern
 entry_closed_late : (m : ℕ) (f : Frame) (fs : List Frame) (ts : List Token) (n : ℕ) (es : List Fault) → BeginAllFrom m (repeated (row_below fs) f.children)
     → AreFrom m ts → AreLate m (f ∷ fs) → BeginAllFrom m es → HasLate m (entry_closed false f fs ts n es)
 entry_closed_late m f [] ts n es r l w e = record { remaining = l; frames = w; faults = e }
 entry_closed_late m f (g ∷ fs) ts n es r l w e = closed_late m f (g ∷ fs) ts n (es
     ++ repeated g.children f.children) l w (more_from m es (repeated g.children f.children) e r)
 
--- what is done at the innermost frame
+-- so does each action
 perform_late : (m : ℕ) (action : Action) (f : Frame) (fs : List Frame) (ts : List Token) (n : ℕ) (es : List Fault)
     → Allowed f.position (head_kind ts) action → IsStackedOn f.head f.position fs → AreFrom m ts → AreLate m (f ∷ fs) → BeginAllFrom m es
     → HasLate m (perform false action f fs ts n es)
 perform_late m action f fs ts n es al st l w e = by action al
   where
-    -- the frame gets more children
+    -- so do more children of the innermost frame
     grown : (x : AnnotatedForest) (next_position : Position) → AreLate m (put next_position (f.children ⊕ x) f ∷ fs)
     grown x next_position = (late_more m f.head f.children x (row_below fs) w.0, w.1)
 
@@ -128,7 +128,7 @@ perform_late m action f fs ts n es al st l w e = by action al
         (opened Operand (p.AfterOperand (min_bp_of f.position) 15) f.depth blank ∷ fs) ts n es l (tt, (tt, w.1)) e
     by a.ApplyOr al = record { remaining = from_tail m ts l; frames = (tt, w.1); faults = e }
 
--- each step
+-- so does each step
 pub late_step : (m : ℕ) (now : Machine) → AreStacked now.frames → HasLate m now → HasLate m (step false now)
 late_step m now k w = by now.frames k w.frames
   where
@@ -139,7 +139,7 @@ late_step m now k w = by now.frames k w.frames
         let near : Bool = touches now.prev_end now.remaining in
         perform_late m (action_at f.position next near) f fs now.remaining now.prev_end now.faults (allowed f.position next near) k w.remaining v w.faults
 
--- some steps
+-- so does a run of steps
 pub late_runs : (m : ℕ) {now last : Machine} → Runs false now last → AreStacked now.frames → HasLate m now → HasLate m last
 late_runs m here k w = w
 late_runs m (further {m = now} r) k w = late_runs m r (step_stacked false now k) (late_step m now k w)

@@ -1,4 +1,4 @@
--- Items that begin like others are read alike at other places: the shared ones where the others are, the next one touching these or not, as is given.
+-- Items that begin like others are read alike with other ranges: the shared ones with the ranges of the others, the next one touching these or not, as given.
 use Rattle.std.proofs.Common.{◌≡◌, ℕ, zero, suc, Bool, true, false, List, [], ◌∷◌, ◌++◌, take, drop, Option, Some, None, refl, ap, sym, ◌∙◌, subst, arith, nat_eq}
 use Rattle.{std.proofs.{Common.append-nil, lemmas.Bool.Decides.nat_tests}, rnix_kinds.specs.declared.kinds.SyntaxKind.{SyntaxKind, TheVariants.NODE_ROOT}}
 use Rattle.{rnix_green.specs.Range.Extent, rnix_grammar.specs.{Fault.Fault, AnnotatedForest.{Token, AnnotatedForest, blank, tokens_in, forget, end_from, touches}}}
@@ -7,17 +7,17 @@ use Rattle.{rnix_proof_lemmas.proofs.ReachableRows.known_row, rnix_proof_layout.
 use Rattle.rnix_proof_layout.proofs.{MovedItems.{at, moved, moved_trees, tokens_moved, forget_moved}, Touch.{Touching, last_kind}}
 use Rattle.rnix_proof_layout.proofs.{JoinedRows.row_joins, MovedReadings.{moves, IsMoved}}
 
--- where an item is placed after another: there or one byte on, as it touches that or not
+-- where an item begins that touches the end of another, or not: there, or one byte later
 abbrev pub beside : Bool → ℕ → ℕ
 beside true n = n
 beside false n = suc n
 
--- items one after another after one that ends at n, the first touching that or not, the others as before
+-- the ranges of items after one that ends at `n`: the first touches it or not, as given, and the others touch as before
 abbrev pub behind : Bool → ℕ → List Token → List Extent
 behind w n [] = []
 behind w n (u ∷ us) = record { start = beside w n; end = beside w n } ∷ behind (touches u.end us) (beside w n) us
 
--- the first k items at the places of others, and the rest after them
+-- the first `k` items get the ranges of others, and the rest follow them
 abbrev pub extents : ℕ → Bool → ℕ → List Token → List Token → List Extent
 extents zero w n ts us = behind w n us
 extents (suc k) w n [] us = []
@@ -28,7 +28,7 @@ pub beside_same : (w : Bool) (n : ℕ) → w ≡ nat_eq (beside w n) n
 beside_same true n = grind (arith, nat_tests)
 beside_same false n = grind (arith, nat_tests)
 
--- the next item touches what ends at m as is given, where a path may continue
+-- the next item touches what ends at `m` as given, if a path may continue there
 abbrev pub TouchesAs : Bool → Option SyntaxKind → ℕ → List Token → Type 0
 TouchesAs w prev m [] = Unit {0}
 TouchesAs w prev m (u ∷ us) = may_join prev u.kind ≡ true → nat_eq u.start m ≡ w
@@ -37,7 +37,7 @@ pub own_touch : (prev : Option SyntaxKind) (m : ℕ) (us : List Token) → Touch
 own_touch prev m [] = tt
 own_touch prev m (u ∷ us) = λ j. refl
 
--- they touch as before
+-- with the new ranges, items touch as before
 behind_touching : (w : Bool) (prev : Option SyntaxKind) (n m : ℕ) (us : List Token) → TouchesAs w prev m us → Touching prev m n us (behind w n us)
 behind_touching w prev n m [] h = tt
 behind_touching w prev n m (u ∷ us) h =
@@ -54,7 +54,7 @@ touching (suc k) w prev n m (t ∷ ts) (u ∷ us) h g = (
   subst (λ z. Touching (Some z) u.end t.end us (extents k w t.end ts us)) h.0 (touching k w (Some t.kind) t.end u.end ts us h.3 g),
 )
 
--- the items at the new places
+-- an item with its new range is the other item
 token_is : (t u : Token) → t.kind ≡ u.kind → t.text ≡ u.text → at u (record { start = t.start; end = t.end } ∷ []) ≡ t
 token_is t u e h = λ i. record { kind = sym e i; text = sym h i; start = t.start; end = t.end }
 
@@ -71,7 +71,7 @@ no_fault : (xs ys : List Token) (es : List Fault) → AreSameFaults xs ys [] es 
 no_fault xs ys [] h = refl
 no_fault xs ys (e ∷ es) h = absurd h
 
--- so a reading is one of items that begin with the others, with the same trees
+-- so a reading of these items is one of the other items with theirs after them, and has the same trees
 pub record ReadsOn (k : ℕ) (w : Bool) (ts : List Token) (g : AnnotatedForest) (es : List Fault) : Type 0 where
   pub trees : AnnotatedForest
   pub faults : List Fault

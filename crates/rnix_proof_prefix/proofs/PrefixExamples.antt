@@ -1,4 +1,4 @@
--- What is not so: the items `{` and `...` may have an error, and items that touch otherwise inside paths are not the same.
+-- Two laws that do not hold: that the items `{` and `...` have no error, and that touching inside paths does not matter.
 use Rattle.std.{proofs.Common.{◌≡◌, ℕ, zero, suc, ◌≤◌, false, List, [], ◌∷◌, ◌++◌, refl, arith}, specs.Prelude.{codes, map, ◌+◌}}
 use Rattle.rnix_kinds.specs.declared.kinds.SyntaxKind.{SyntaxKind, TheVariants.{TOKEN_L_BRACE, TOKEN_ELLIPSIS, TOKEN_R_BRACE, TOKEN_COLON, TOKEN_IDENT}}
 use Rattle.rnix_kinds.specs.declared.kinds.SyntaxKind.TheVariants.{TOKEN_PATH_REL, TOKEN_INTERPOL_START, TOKEN_INTERPOL_END}
@@ -16,11 +16,11 @@ brace = item TOKEN_L_BRACE (codes "{") 0 1
 abbrev dots : Token
 dots = item TOKEN_ELLIPSIS (codes "...") 2 5
 
--- what follows them in the second text
+-- what follows `{ ...` in the second text
 abbrev others : List Token
 others = item TOKEN_R_BRACE (codes "}") 6 7 ∷ item TOKEN_COLON (codes ":") 7 8 ∷ item TOKEN_IDENT (codes "a") 9 10 ∷ []
 
--- so many steps
+-- `n` steps of a machine
 abbrev pub steps : ℕ → Machine → Machine
 steps zero now = now
 steps (suc n) now = steps n (step false now)
@@ -29,7 +29,7 @@ pub run : (n : ℕ) (now : Machine) → Runs false now (steps n now)
 run zero now = here
 run (suc n) now = further (run n (step false now))
 
--- so it is not: whatever they end with, items that others without errors begin with have no error
+-- the law that the items with which a text without errors begins have no error, whatever they end with
 abbrev AreDecided : Type 0
 AreDecided =
     (m : ℕ) (q xs zs : List Token) (first second : Machine) → AreFrom m xs
@@ -52,7 +52,7 @@ path n =
     ∷ item TOKEN_INTERPOL_END (codes "}") 6 7 ∷ item TOKEN_INTERPOL_START (codes "${") n (n + 2) ∷ item TOKEN_IDENT (codes "c") (n + 2) (n + 3)
     ∷ item TOKEN_INTERPOL_END (codes "}") (n + 3) (n + 4) ∷ []
 
--- so it is not: items with the same kinds and texts as others that are read without errors have no error
+-- the law that items with the same kinds and texts as those of a text without errors have no error
 abbrev DecidedByTexts : Type 0
 DecidedByTexts =
     (xs ys : List Token) (first second : Machine) → map lexeme_of xs ≡ map lexeme_of ys → Runs false (initial_machine xs) first

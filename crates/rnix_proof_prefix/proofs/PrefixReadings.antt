@@ -14,7 +14,7 @@ pub record RunsTo (ts : List Token) (ds : List Fault) : Type 0 where
   pub clean : AreClean last.frames
   pub faults : last.faults ≡ ds
 
--- so it is with each reading
+-- this holds for each reading
 abbrev pub AllRun : Type 0
 AllRun = (f : AnnotatedForest) (ds : List Fault) → ReadsRoot f ds → RunsTo (tokens_in f) ds
 

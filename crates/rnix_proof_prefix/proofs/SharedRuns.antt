@@ -1,4 +1,4 @@
--- A list of items has no error at those that it shares with a list that is read without errors.
+-- A list of items has no error at those that it shares with the beginning of a list that is read without errors.
 use Rattle.{std.proofs.Common.{◌≡◌, inl, inr, ℕ, false, List, [], ◌∷◌, ◌++◌, refl, ap, sym, ◌∙◌, subst, arith}, rnix_grammar.specs.Fault.Fault}
 use Rattle.{rnix_grammar.specs.{Actions.action_at, AnnotatedForest.{Token, head_kind, touches}}, rnix_proof_lemmas.specs.Machine.{Frame, Machine, machine}}
 use Rattle.rnix_proof_lemmas.{specs.{Machine.{step_on, step, initial_machine, Runs, rest as here, then as further}, FrameKinds.AreStacked}, proofs.Basics.not_nil}
@@ -7,28 +7,28 @@ use Rattle.rnix_proof_prefix.proofs.{Late.{AreFrom, AreLate, HasLate}, LateSteps
 use Rattle.rnix_proof_prefix.proofs.{BraceSteps.IsApart, SharedSteps.{IsShared, Goes, perform_shared}}
 
 module _ (m : ℕ) (xs zs : List Token) (late : AreFrom m xs) where
-  -- the same frames over both lists
+  -- one step over both lists, with the same frames and shared items
   shared_step : (fs : List Frame) (t : Token) (q : List Token) (n : ℕ) (es : List Fault) → AreStacked fs → AreLate m fs → BeginAllFrom m es
       → end_undecided (t ∷ q) ≡ false → Goes m xs zs late (step_on false fs (t ∷ (q ++ xs)) n es) (step_on false fs (t ∷ (q ++ zs)) n es)
   shared_step [] t q n es k w g h = absurd k
   shared_step (f ∷ fs) t q n es k w g h =
       perform_shared m xs zs late (action_at f.position (head_kind (t ∷ q)) (touches n (t ∷ q))) f fs t q n es w g h
 
-  -- what an outcome of a step leads to
+  -- what follows from each outcome of a step
   outcome : {C : Type 0} (now other : Machine) → (IsShared m xs zs late now other → C) → (IsApart m now → C) → other.faults ≡ []
       → Goes m xs zs late now other → C
   outcome now other f g h (inl v) = f v
   outcome now other f g h (inr (inl v)) = g v
   outcome now other f g h (inr (inr v)) = absurd (v h)
 
-  -- frames that have nothing to report over the second list
+  -- frames that have nothing to report in a list without errors have nothing to report before a byte
   late_frames : (fs : List Frame) (ts us : List Token) (n : ℕ) (es : List Fault) → AreStacked fs → AreLate 0 fs → HasNone (machine fs us n es)
       → AreFrom m ts → HasLate m (machine fs ts n es)
   late_frames fs ts us n es k w c h = record { remaining = h; frames = all_late m fs c.0 w; faults = subst (BeginAllFrom m) (sym c.1) tt }
 
   -- both lists are read to their ends, the second without errors
   module _ (first second : Machine) (over : first.remaining ≡ []) (done : second.remaining ≡ []) (none : HasNone second) where
-    -- from where both have come equally far
+    -- from machines with the same frames and shared items on, the errors of the first list begin after the shared items
     together : {here there : Machine} (fs : List Frame) (q : List Token) (n : ℕ) (es : List Fault) → Runs false here first → Runs false there second
         → here ≡ machine fs (q ++ xs) n es → there ≡ machine fs (q ++ zs) n es → AreStacked fs → HasLate 0 here → end_undecided q ≡ false
         → BeginAllFrom m first.faults
@@ -52,12 +52,12 @@ module _ (m : ℕ) (xs zs : List Token) (late : AreFrom m xs) where
         after.1
         (shared_step fs t q n es k lateness (subst (BeginAllFrom m) (sym c.1) tt) d)
 
--- all items begin at the first byte or after it
+-- all items begin at byte 0 or after it
 from_start : (ts : List Token) → AreFrom 0 ts
 from_start [] = tt
 from_start (t ∷ ts) = (omega arith, from_start ts)
 
--- the errors of some items, which begin with the same items as others that are read without errors, begin after these
+-- if some items begin like others that are read without errors, their errors begin after the shared items
 pub late_errors : (m : ℕ) (q xs zs : List Token) (first second : Machine) → AreFrom m xs → end_undecided q ≡ false
     → Runs false (initial_machine (q ++ xs)) first → Runs false (initial_machine (q ++ zs)) second → first.remaining ≡ [] → second.remaining ≡ []
     → HasNone second

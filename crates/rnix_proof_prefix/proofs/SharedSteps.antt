@@ -1,4 +1,4 @@
--- Two lists of items that begin with the same items are read by the same steps, as long as one of these is left; or an error is reported.
+-- Two lists that begin with the same items are read by the same steps as long as one of these items is left, or until an error is reported.
 use Rattle.std.proofs.Common.{◌≡◌, ◌⊎◌, inl, inr, ℕ, suc, Bool, true, false, List, [], ◌∷◌, ◌++◌, Option, Some, refl, ap, sym, ◌∙◌, subst, if◌then◌else◌}
 use Rattle.{std.proofs.Common.nat_le, rnix_kinds.specs.declared.kinds.SyntaxKind.{SyntaxKind, TheVariants.TOKEN_IDENT}}
 use Rattle.rnix_kinds.specs.declared.kinds.SyntaxKind.TheVariants.{TOKEN_L_BRACE, TOKEN_R_BRACE, TOKEN_ELLIPSIS, TOKEN_LET, NODE_APPLY}
@@ -20,7 +20,7 @@ use Rattle.rnix_grammar.specs.declared.operand_start.OperandStart.TheVariants as
 abbrev pub onto : List Token → Machine → Machine
 onto ts now = machine now.frames (now.remaining ++ ts) now.prev_end now.faults
 
--- what is so of two pairs is so of a choice in both
+-- what holds of two pairs holds of a choice in both
 pub choices : {A : Type 0} (P : A → A → Type 0) (b : Bool) {x y u v : A} → P x u → P y v → P (if b then x else y) (if b then u else v)
 choices P true h k = h
 choices P false h k = k
@@ -30,11 +30,11 @@ abbrev is_stray : OperandStart → Bool
 is_stray b.Stray = true
 is_stray how = false
 
--- that depends on the item alone
+-- whether an item begins an operand does not depend on the items after it
 abbrev strays : ℕ → SyntaxKind → SyntaxKind → Bool
 strays level kind k = is_stray (operand_start_for (kind_up_to (highest kind) level k) kind)
 
--- an old `let` begins an operand where one with bindings does
+-- an old `let` begins an operand, as one with `in` does
 old_let_strays : (w : Bool) → is_stray (operand_start_for (kind_if w NODE_LEGACY_LET) TOKEN_LET)
     ≡ is_stray (operand_start_for (kind_if w NODE_LET_IN) TOKEN_LET)
 old_let_strays true = refl
@@ -50,13 +50,13 @@ stray_same : (level : ℕ) (kind : SyntaxKind) (text : List ℕ) (second third n
     → is_stray (operand_start_of level kind text second third) ≡ is_stray (operand_start_of level kind text next after)
 stray_same level kind text second third next after = stray_alone level kind text second third ∙ sym (stray_alone level kind text next after)
 
--- the third item says how an operand begins only after `{`
+-- the third item matters only after `{`
 pub third_counts : (level : ℕ) (kind : SyntaxKind) (text : List ℕ) (second third other : Option SyntaxKind)
     → (kind ≡ TOKEN_L_BRACE) ⊎ (operand_start_of level kind text second third ≡ operand_start_of level kind text second other)
 third_counts level TOKEN_L_BRACE text second third other = inl refl
 third_counts level _ text second third other = inr refl
 
--- and there only after a name, `}` or `...`
+-- and there only before a name, `}` or `...`
 pub pattern_counts : (kind : SyntaxKind) (third other : Option SyntaxKind)
     → IsBeforeThird kind ⊎ (is_pattern (Some kind) third ≡ is_pattern (Some kind) other)
 pattern_counts TOKEN_IDENT third other = inl (inl refl)
@@ -64,7 +64,7 @@ pattern_counts TOKEN_R_BRACE third other = inl (inr (inl refl))
 pattern_counts TOKEN_ELLIPSIS third other = inl (inr (inr refl))
 pattern_counts _ third other = inr refl
 
--- items after the first end as all do
+-- if the shared items do not end undecided, neither do those after the first
 tail_decided : (ts : List Token) → end_undecided ts ≡ false → end_undecided (tail_of ts) ≡ false
 tail_decided [] h = refl
 tail_decided (t ∷ []) h = refl
@@ -72,14 +72,14 @@ tail_decided (t ∷ (u ∷ [])) h = refl
 tail_decided (t ∷ (u ∷ (v ∷ vs))) h = h
 
 module _ (m : ℕ) (xs zs : List Token) (late : AreFrom m xs) where
-  -- both machines have come equally far, with the same items left before the others
+  -- both machines have the same frames, errors and shared items left
   pub record IsShared (here there : Machine) : Type 0 where
     pub at : Machine
     pub first : here ≡ onto xs at
     pub second : there ≡ onto zs at
     pub decided : end_undecided at.remaining ≡ false
 
-  -- or errors begin after the shared items in the first, or the second has an error
+  -- or the errors of the first begin after the shared items, or the second has an error
   abbrev pub Goes : Machine → Machine → Type 0
   Goes here there = IsShared here there ⊎ (IsApart m here ⊎ (there.faults ≡ [] → ⊥))
 
@@ -87,11 +87,11 @@ module _ (m : ℕ) (xs zs : List Token) (late : AreFrom m xs) where
   wrong : (here there : Machine) (es : List Fault) (e : Fault) → there.faults ≡ es ++ e ∷ [] → Goes here there
   wrong here there es e h = inr (inr (λ none. not_nil (none_right es (e ∷ []) (sym h ∙ none))))
 
-  -- what one machine becomes over both lists
+  -- both come from one machine, with the items of each list after it
   shared : (at : Machine) → end_undecided at.remaining ≡ false → Goes (onto xs at) (onto zs at)
   shared at h = inl (record { at = at; first = refl; second = refl; decided = h })
 
-  -- an operand begins alike
+  -- an operand that begins with a shared item, in a given way
   begun_shared : (how : OperandStart) (level d : ℕ) (t u : Token) (f : Frame) (fs : List Frame) (q : List Token) (n : ℕ) (es : List Fault)
       → end_undecided (u ∷ q) ≡ false
       → Goes (begun false how level d t f fs (t ∷ (u ∷ (q ++ xs))) n es) (begun false how level d t f fs (t ∷ (u ∷ (q ++ zs))) n es)
@@ -99,7 +99,7 @@ module _ (m : ℕ) (xs zs : List Token) (late : AreFrom m xs) where
   begun_shared b.BoundLambda level d t u f fs q n es h = shared (begun false b.BoundLambda level d t f fs (t ∷ (u ∷ q)) n es) (tail_decided (u ∷ q) h)
   begun_shared how level d t u f fs q n es h = shared (begun false how level d t f fs (t ∷ (u ∷ q)) n es) h
 
-  -- with the last of the shared items an operand begins in one way or another, or in neither list
+  -- an operand that begins with the last shared item, in one way or another; or in neither list
   begun_last : (how other : OperandStart) → is_stray how ≡ is_stray other → (second : Option SyntaxKind) → BeginsInner second how
       → (level d : ℕ) (t : Token) (f : Frame) (fs : List Frame) (us : List Token) (n : ℕ) (es : List Fault)
       → AreLate m (f ∷ fs) → BeginAllFrom m es
@@ -109,7 +109,7 @@ module _ (m : ℕ) (xs zs : List Token) (late : AreFrom m xs) where
   begun_last how other e second i level d t f fs us n es w g =
       inr (inl (late_apart m _ (begun_late m second how level d t f fs xs n es i tt late w g)))
 
-  -- the next item and the last of the shared items after it begin an operand
+  -- the next item, and after it the last shared one, begin an operand
   module _ (level d : ℕ) (f : Frame) (fs : List Frame) (t u : Token) (n : ℕ) (es : List Fault) (w : AreLate m (f ∷ fs)) (g : BeginAllFrom m es)
       (h : end_undecided (t ∷ (u ∷ [])) ≡ false) where
     abbrev Begun : OperandStart → OperandStart → Type 0
@@ -151,7 +151,7 @@ module _ (m : ℕ) (xs zs : List Token) (late : AreFrom m xs) where
   operand_shared level d f fs t (u ∷ (v ∷ q)) n es w g h =
       begun_shared (operand_start_of level t.kind t.text (Some u.kind) (Some v.kind)) level d t u f fs (v ∷ q) n es h
 
-  -- counted or not
+  -- the same for an operand that is counted or not
   reading_shared : (level : ℕ) (counted : Bool) (f : Frame) (fs : List Frame) (t : Token) (q : List Token) (n : ℕ) (es : List Fault)
       → AreLate m (f ∷ fs) → BeginAllFrom m es → end_undecided (t ∷ q) ≡ false
       → Goes (reading false level counted f fs (t ∷ (q ++ xs)) n es) (reading false level counted f fs (t ∷ (q ++ zs)) n es)
@@ -161,7 +161,7 @@ module _ (m : ℕ) (xs zs : List Token) (late : AreFrom m xs) where
       (operand_shared level (suc f.depth) f fs t q n es w g h)
   reading_shared level false f fs t q n es w g h = operand_shared level f.depth f fs t q n es w g h
 
-  -- what is done at the innermost frame
+  -- each action
   pub perform_shared : (action : Action) (f : Frame) (fs : List Frame) (t : Token) (q : List Token) (n : ℕ) (es : List Fault)
       → AreLate m (f ∷ fs) → BeginAllFrom m es → end_undecided (t ∷ q) ≡ false
       → Goes (perform false action f fs (t ∷ (q ++ xs)) n es) (perform false action f fs (t ∷ (q ++ zs)) n es)

@@ -24,7 +24,7 @@ use Rattle.rnix_proof_lemmas.proofs.ViableRows.{reads_viable, end_viable, reads_
 use Rattle.rnix_proof_replacement.specs.Replaced.{opens_level, closes_level, one_less, are_balanced}
 use Rattle.rnix_proof_reparse.proofs.CarriedReadings.{no_second, known_end}
 
--- how many levels are open where a part comes next, by what is open after it
+-- how many levels are open before a part, from how many are open after it
 abbrev before_token : SyntaxKind → ℕ → ℕ
 before_token k n = if opens_level k then n - 1 else (if closes_level k then suc n else n)
 
@@ -38,14 +38,14 @@ before_part FormalsAfterComma n = suc n
 before_part Comma n = suc n
 before_part p n = n
 
--- how many levels of a node are open where this is left of its row
+-- how many levels of its node are open at this rest of a row
 abbrev open_in : Row → ℕ
 open_in never = 0
 open_in done = 0
 open_in (p · r) = before_part p (open_in r)
 open_in (r or s) = open_in r
 
--- a child opens and closes what its kind says
+-- a child of the kind changes the number of open levels from the first to the second
 abbrev goes_level : SyntaxKind → ℕ → ℕ → Bool
 goes_level k n m = if opens_level k then nat_eq m (suc n) else (if closes_level k then nat_eq n (suc m) else nat_eq n m)
 
@@ -57,7 +57,7 @@ kept_levels {i} q k known v =
     sym (ap (λ w. if w then goes_level k (open_in q) (open_in (after q k)) else true) v)
     ∙ every (keeps_levels q) (every_known (λ i q. list_all (keeps_levels q) all_kinds) (λ i. refl) refl i q known) k
 
--- a row begins and ends with none open
+-- at the beginning and at the end of a row no level is open
 row_start : (k : SyntaxKind) → open_in (row k) ≡ 0
 row_start k = number (open_in (row k)) (every (λ k. nat_eq (open_in (row k)) 0) refl k)
   where
@@ -72,7 +72,7 @@ row_end {i} q known v =
     number : (n : ℕ) → nat_eq n 0 ≡ true → n ≡ 0
     number n h = grind (arith, nat_tests, h)
 
--- a leaf opens and closes what its token does
+-- a leaf opens or closes a level exactly if its token does
 leaf_opens : (p k : SyntaxKind) → opens_level (leaf_kind_as p k) ≡ opens_level k
 leaf_opens NODE_IDENT TOKEN_OR = refl
 leaf_opens NODE_IDENT TOKEN_CUR_POS = refl
@@ -85,7 +85,7 @@ leaf_closes NODE_IDENT TOKEN_CUR_POS = refl
 leaf_closes NODE_CUR_POS TOKEN_IDENT = refl
 leaf_closes _ _ = refl
 
--- the levels after an item
+-- the number of levels after an item
 same_number : (n m : ℕ) → nat_eq n m ≡ true → n ≡ m
 same_number n m h = grind (arith, nat_tests, h)
 
@@ -102,7 +102,7 @@ leaf_levels p t n m d ls h = item_levels (opens_level t.kind) (closes_level t.ki
     (sym (ap (λ a. if a then nat_eq m (suc n) else (if closes_level (leaf_kind p t) then nat_eq n (suc m) else nat_eq n m)) (leaf_opens p t.kind)
     ∙ ap (λ b. if opens_level t.kind then nat_eq m (suc n) else (if b then nat_eq n (suc m) else nat_eq n m)) (leaf_closes p t.kind)) ∙ h)
 
--- a node opens nothing
+-- a node as a whole opens and closes nothing
 node_neutral : (k : SyntaxKind) → has_row k ≡ true → (opens_level k ≡ false) × (closes_level k ≡ false)
 node_neutral k h = (by (opens_level k) refl first, by (closes_level k) refl last)
   where
@@ -124,15 +124,15 @@ node_levels k n m h g =
     same_number n m (sym (ap (λ a. if a then nat_eq m (suc n) else (if closes_level k then nat_eq n (suc m) else nat_eq n m)) w.0
     ∙ ap (λ b. if b then nat_eq n (suc m) else nat_eq n m) w.1) ∙ g)
 
--- the lexemes of two forests, and more
+-- the lexemes of two joined lists of items are those of both, joined
 lexemes_two : (xs ys : List Token) (ls : List Lexeme) → map lexeme_of (xs ++ ys) ++ ls ≡ map lexeme_of xs ++ (map lexeme_of ys ++ ls)
 lexemes_two xs ys ls = ap (λ z. z ++ ls) (map-append lexeme_of xs ys) ∙ append_assoc (map lexeme_of xs) (map lexeme_of ys) ls
 
--- where a row has none open
+-- with no level open in its row, a node changes nothing for the items after it
 none_open : (q : Row) (m : ℕ) (ls : List Lexeme) → open_in q ≡ 0 → are_balanced ls m ≡ are_balanced ls (open_in q + m)
 none_open q m ls e = let same : m ≡ open_in q + m = omega (arith, e) in ap (are_balanced ls) same
 
--- the items of a forest that is read open and close what its row says
+-- the items of a forest that is read lead from the number of levels open before it in its row to the number after it
 pub balanced_row : {p : SyntaxKind} {d n : ℕ} {q q' : Row} {b : AnnotatedForest} {us : List Token} {f : AnnotatedForest} {es : List Fault}
     → Reads p d n q q' b us f es → es ≡ [] → IsKnown p q → is_viable q' ≡ true → (m : ℕ) (ls : List Lexeme)
     → are_balanced (map lexeme_of (tokens_in f) ++ ls) (open_in q + m) ≡ are_balanced ls (open_in q' + m)
@@ -158,7 +158,7 @@ balanced_row {q = q} {b = b} (inner {k = k} {s = s} {c = x} {f = f} {ds = ds} {e
     ∙ (ap (λ c. are_balanced more (c + m)) same
     ∙ balanced_row h (none_right (ds ++ repeats k b x) es z) (known_after k known) v m ls))))
 
--- inside the brackets of a bracketed node
+-- the rest of the row is inside the brackets of a node
 abbrev pub is_within : SyntaxKind → Row → Bool
 is_within NODE_ATTR_SET (Entries closer · r) = true
 is_within NODE_LIST (Many level closer · r) = true
@@ -175,7 +175,7 @@ over_is : (q : Row) → is_over q ≡ true → q ≡ done
 over_is done h = refl
 over_is _ h = absurd (true_is_not_false (sym h))
 
--- each child stays inside and opens and closes nothing, or ends the row
+-- each child opens and closes nothing and leaves the row inside, or is the last
 abbrev stays : SyntaxKind → Row → SyntaxKind → Bool
 stays i q k =
     if is_over (after q k) then true
@@ -198,7 +198,7 @@ within_stays {i} q k known w v =
     (sym (ap (λ a. if a then list_all (λ k. if is_viable (after q k) then stays i q k else true) all_kinds else true) w)
     ∙ every_known stays_within kind_never refl i q known) k
 
--- what a child that does not end the row says
+-- this holds for a child that is not the last
 record Stays (i : SyntaxKind) (q : Row) (k : SyntaxKind) : Type 0 where
   opens : opens_level k ≡ false
   closes : closes_level k ≡ false
@@ -221,7 +221,7 @@ stays_parts i q k h e = by (opens_level k) refl (closes_level k) refl (sym (ap (
           ∙ ap (λ c. if c then false else is_within i (after q k)) f) ∙ g;
     }
 
--- more is read, so the row is not over
+-- the row is not complete if more is read
 pub not_over : {p : SyntaxKind} {d n : ℕ} {q q' : Row} {b : AnnotatedForest} {us : List Token} {es : List Fault} (x : AnnotatedForest) (r : SyntaxKind)
     (u : Token)
     → Reads p d n q q' b us (x ⊕ one_token r u) es → is_viable q' ≡ true → is_over q ≡ false
@@ -244,7 +244,7 @@ neutral_item p t m ls a b =
     (sym (leaf_opens p t.kind) ∙ a)
     ∙ ap (λ w. if w then one_less m (are_balanced ls) else are_balanced ls m) (sym (leaf_closes p t.kind) ∙ b)
 
--- the items inside brackets are balanced
+-- the items between the brackets are balanced
 pub balanced_inside : (x : AnnotatedForest) (r : SyntaxKind) (u : Token) {p : SyntaxKind} {d n : ℕ} {q q' : Row} {b : AnnotatedForest} {us : List Token}
     {es : List Fault}
     → Reads p d n q q' b us (x ⊕ one_token r u) es → es ≡ [] → IsKnown p q → is_viable q' ≡ true → is_within p q ≡ true → (m : ℕ) (ls : List Lexeme)

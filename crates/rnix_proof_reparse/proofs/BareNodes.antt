@@ -1,4 +1,4 @@
--- Trees in which the children of one node are others, without trivia; and the parts of a bracketed node.
+-- Two trees that differ in the children of one node, without their trivia. The parts of a bracketed node.
 use Rattle.std.proofs.Common.{◌≡◌, ℕ, suc, Bool, true, false, List, [], ◌∷◌, refl, ap, sym, ◌∙◌, subst, if◌then◌else◌}
 use Rattle.rnix_kinds.specs.declared.kinds.SyntaxKind.{SyntaxKind}
 use Rattle.rnix_kinds.specs.declared.kinds.SyntaxKind.TheVariants.{NODE_ERROR}
@@ -26,7 +26,7 @@ use Rattle.rnix_proof_reparse.proofs.PlacedAgain.{StartsWithItem, StopsWithItem,
 use Rattle.rnix_proof_reparse.proofs.SwappedEdges.{AreSome, some_first}
 use Rattle.rnix_proof_reparse.proofs.FoundNodes.{kinds_of_nodes, parts_of_leaves, no_leaf, no_empty, no_end, no_node}
 
--- a token that is trivia or not, before such forests
+-- such trees with the same token before them, which may be trivia
 abbrev swapped_if : {k : SyntaxKind} {c e f g : AnnotatedForest} (j : SyntaxKind) (t : Token) (w : Bool) → Swapped k c e f g
     → Swapped k c e (token_if w j t f) (token_if w j t g)
 swapped_if j t true s = s
@@ -37,7 +37,7 @@ levels_if : {k : SyntaxKind} {c e f g : AnnotatedForest} (p j : SyntaxKind) (t :
 levels_if p j t true s = refl
 levels_if p j t false s = refl
 
--- without trivia
+-- such trees without their trivia
 abbrev pub bare_swapped : {k : SyntaxKind} {c e f g : AnnotatedForest} → Swapped k c e f g
     → Swapped k (without_trivia c) (without_trivia e) (without_trivia f) (without_trivia g)
 bare_swapped here = here
@@ -53,7 +53,7 @@ bare_levels p (past_branch s) = bare_levels p s
 bare_levels p (past_fault s) = bare_levels p s
 bare_levels p (inside {j = j} s) = ap (λ z. if nests p j then suc z else z) (bare_levels j s)
 
--- brackets are no trivia, and have their own kinds as leaves
+-- brackets are no trivia, and their leaves have their own kinds
 pub bracket_kinds : {k l r : SyntaxKind} → IsBracketed k l r → (is_trivia l ≡ false) × (is_trivia r ≡ false)
 bracket_kinds set = (refl, refl)
 bracket_kinds list = (refl, refl)
@@ -66,14 +66,14 @@ kind_alone list j = refl
 kind_alone paren j = refl
 kind_alone string j = refl
 
--- a bracketed node without trivia
+-- the children of a bracketed node without trivia are its brackets and what is between them, without trivia
 pub bare_bracketed : (l r : SyntaxKind) (t u : Token) (x : AnnotatedForest) → is_trivia t.kind ≡ false → is_trivia u.kind ≡ false
     → without_trivia (bracketed l t x r u) ≡ bracketed l t (without_trivia x) r u
 bare_bracketed l r t u x e h =
     ap (λ w. token_if w l t (without_trivia (x ⊕ one_token r u))) e
     ∙ ap (token l t) (without_trivia-⊕ x (one_token r u) ∙ ap (λ w. without_trivia x ⊕ token_if w r u blank) h)
 
--- the parts of trees that are a bracketed node's children
+-- the children of a bracketed node, as annotated: its brackets and what is between them
 pub record IsBetween (l : SyntaxKind) (s : List ℕ) (d : Forest) (r : SyntaxKind) (t : List ℕ) (a : AnnotatedForest) : Type 0 where
   pub opening : Token
   pub closing : Token
@@ -148,7 +148,7 @@ between_parts l s d r t (token j x g) e h =
       forest = m.forest;
     }
 
--- a forest of one node
+-- an annotated forest is one node of the kind
 pub record IsOneNode (k : SyntaxKind) (c : Forest) (a : AnnotatedForest) : Type 0 where
   pub children : AnnotatedForest
   pub is : a ≡ branch k children blank
@@ -162,7 +162,7 @@ one_node k c (branch j y g) e h =
     let w = kinds_of_nodes e in
     record { children = y; is = ap (λ z. branch z y g) w.0 ∙ ap (branch k y) (no_more g w.2); forest = w.1 }
 
--- nodes that are read without errors begin and end with items
+-- a node that is read without errors begins and ends with items, so it has some
 filled_some : (f : AnnotatedForest) → HasTree f → AreFilled f → AreSome (tokens_in f)
 filled_some blank t h = absurd t
 filled_some (token k x f) t h = tt
@@ -196,7 +196,7 @@ item_edges (branch k c f) e h =
     items_some (tokens_in c) (subst AreSome (without_trivia_tokens c) (filled_some (without_trivia c) filled.0 filled.1)) in
     (starts_with (tokens_in c) some e.0.0, stops_with (tokens_in c) e.0.1, item_edges c e.1 h.2, item_edges f e.2 h.3)
 
--- trees without trivia
+-- the trees of a forest without trivia are its trees without trivia
 forget_if : (w : Bool) (k : SyntaxKind) (t : Token) (f : AnnotatedForest) → forget (token_if w k t f) ≡ leaf_unless w k t.text (forget f)
 forget_if true k t f = refl
 forget_if false k t f = refl

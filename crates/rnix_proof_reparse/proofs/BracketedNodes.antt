@@ -1,4 +1,4 @@
--- A bracketed node that is read without errors alone is read so at each place where another of its kind stands, if it nests no deeper than may be.
+-- A bracketed node that is read without errors alone may replace another one of its kind anywhere, if it nests within the limit.
 use Rattle.std.proofs.Common.{◌≡◌, ℕ, ◌+◌, ◌≤◌, Bool, true, false, List, [], ◌∷◌, ◌++◌, Option, Some, None, refl, ap, sym, ◌∙◌, subst, if◌then◌else◌}
 use Rattle.rnix_kinds.specs.declared.kinds.SyntaxKind.{SyntaxKind}
 use Rattle.rnix_kinds.specs.declared.kinds.SyntaxKind.TheVariants.{NODE_ATTR_SET, NODE_LIST, NODE_PAREN, NODE_STRING}
@@ -17,15 +17,15 @@ use Rattle.rnix_proof_reparse.proofs.SeenItems.{start_kind, Sees, sees_cons, see
 use Rattle.rnix_proof_reparse.proofs.CarriedReadings.{placed, known_end, ending, close}
 use Rattle.rnix_proof_reparse.proofs.ReplacedReadings.{IsColonless, end_more, IsNodeRead, MayStand}
 
--- a token that starts elsewhere
+-- a token that starts at another byte
 abbrev pub starting : Token → ℕ → Token
 starting t z = record { kind = t.kind; text = t.text; start = z; end = t.end }
 
--- the children of a bracketed node: its opening token, others, and its closing token
+-- the children of a bracketed node: its opening token, what is between the brackets, and its closing token
 abbrev pub bracketed : SyntaxKind → Token → AnnotatedForest → SyntaxKind → Token → AnnotatedForest
 bracketed l t x r u = token l t (x ⊕ one_token r u)
 
--- what is seen of a closing bracket does not depend on what follows it, where that begins with neither `:` nor `@`
+-- whether a closing bracket begins a pattern does not depend on the next item, if this is neither `:` nor `@`
 closing_pattern : {k l r : SyntaxKind} → IsBracketed k l r → (us : List Token) → IsColonless us → is_pattern (Some r) None ≡ is_pattern (Some r) (head_kind us)
 closing_pattern set us colonless = sym colonless
 closing_pattern list us colonless = refl
@@ -49,7 +49,7 @@ closing_sees w u e z us colonless = (
       (closing_start w level u.text (head_kind us) (second_kind us)),
 )
 
--- what is seen of an opening bracket, where both begin nodes of the kind
+-- whether an opening bracket is the second item of a pattern does not depend on what follows it
 opening_pattern : {k l r : SyntaxKind} → IsBracketed k l r → (a b : Option SyntaxKind) → is_pattern (Some l) a ≡ is_pattern (Some l) b
 opening_pattern set a b = refl
 opening_pattern list a b = refl
@@ -76,7 +76,7 @@ opening_sees {k} {l} w t u e h at ts us b c = (
       ∙ sym (ap (λ j. first_kind level j u.text (head_kind us) (second_kind us)) h),
 )
 
--- the row of a bracketed node is over with its closing bracket alone
+-- the row of a bracketed node is complete after its closing bracket only
 abbrev is_bracketed : SyntaxKind → Bool
 is_bracketed NODE_ATTR_SET = true
 is_bracketed NODE_LIST = true
@@ -108,7 +108,7 @@ done_over : (n : ℕ) (us : List Token) → IsOver done n us
 done_over n [] = (refl, refl)
 done_over n (u ∷ us) = (refl, refl)
 
--- the opening bracket is there whenever the node is
+-- the row of a bracketed node begins with the opening bracket
 open_expected : {k l r : SyntaxKind} → IsBracketed k l r → (n : ℕ) (ts : List Token) → IsExpected (row k) n ts true
 open_expected set n ts = tt
 open_expected list n ts = tt
@@ -121,14 +121,14 @@ open_followed list next = tt
 open_followed paren next = tt
 open_followed string next = tt
 
--- after the opening bracket
+-- a reading of a bracketed node continues after the opening bracket
 pub opened : {k l : SyntaxKind} {d m : ℕ} {q s : Row} {b x : AnnotatedForest} {t : Token} {us : List Token} {es : List Fault}
     → Reads k d m q s b us (token l t x) es → es ≡ [] → (l ≡ leaf_kind k t) × Reads k d t.end (after q l) s (b ⊕ one_token l t) us x []
 opened (missing_part u f o y h) z = absurd (not_nil z)
 opened {k} {d = d} {q = q} {s = s} {b = b} {x = x} {t = t} {us = us} (leaf o f h) z =
     (refl, subst (λ (e : List Fault). Reads k d t.end (after q (leaf_kind k t)) s (b ⊕ one_token (leaf_kind k t) t) us x e) z h)
 
--- the node elsewhere
+-- the node is read at another place, if what follows its opening bracket is
 there_from : {k r : SyntaxKind} (t u : Token) (x : AnnotatedForest) {d : ℕ} {s : Row} → IsBracketed k (leaf_kind k t) r
     → Reads k d t.end (after (row k) (leaf_kind k t)) s (one_token (leaf_kind k t) t) [] (x ⊕ one_token r u) [] → may_end s ≡ true → u.kind ≡ r
     → (a z n v : ℕ) (us : List Token) → IsColonless us → v + depth_of (row k) (token (leaf_kind k t) t (x ⊕ one_token r u)) ≤ depth_limit
@@ -152,11 +152,11 @@ read_there {k} {l} {r} w t u x {d = d} {s = s} h ended kind a z n v us colonless
     → v + depth_of (row k) (token j t (x ⊕ one_token r u)) ≤ depth_limit → IsNodeRead k v n (token j (starting t a) (x ⊕ one_token r (ending u z))) us)
     (sym o.0) (λ w h fit. there_from t u x w h ended kind a z n v us colonless fit) w o.1 fit
 
--- where the last item of such a forest ends
+-- such children end where their closing bracket does
 end_closed : (n : ℕ) (x : AnnotatedForest) (r : SyntaxKind) (u : Token) → end_from n (tokens_in (x ⊕ one_token r u)) ≡ u.end
 end_closed n x r u = ap (end_from n) (tokens_in-⊕ x (one_token r u)) ∙ end_more n (tokens_in x) (u ∷ [])
 
--- the items of a bracketed node begin it, whatever items follow that begin with neither `:` nor `@`
+-- the items of a bracketed node begin it as an operand, whatever follows that is neither `:` nor `@`
 abbrev pub BeginsItself : SyntaxKind → SyntaxKind → Token → AnnotatedForest → SyntaxKind → Token → Type 0
 BeginsItself k l t x r u = start_kind 0 (t ∷ (tokens_in x ++ (u ∷ []))) ≡ k
 
@@ -167,7 +167,7 @@ begins_before {r = r} w t u x e b us colonless =
     sees_cons t (tokens_in x ++ (u ∷ [])) (tokens_in x ++ (u ∷ us)) (sees_more (tokens_in x) (u ∷ []) (u ∷ us) (closing_sees w u e u.end us colonless)) in
     ap (λ ts. start_kind 0 (t ∷ ts)) (tokens_two x (one_token r u) us) ∙ (sym (more.3 0) ∙ b)
 
--- so it is at other places
+-- this holds for other ranges of the brackets
 begins_moved : {k l r : SyntaxKind} (w : IsBracketed k l r) (t u : Token) (x : AnnotatedForest) → u.kind ≡ r → BeginsItself k l t x r u → (a z : ℕ)
     → BeginsItself k l (starting t a) x r (ending u z)
 begins_moved w t u x e b a z =
@@ -176,7 +176,7 @@ begins_moved w t u x e b a z =
     (closing_sees w u e z [] refl)) in
     sym (more.3 0) ∙ b
 
--- so it may be where another stands
+-- so the node may replace another one of its kind
 pub may_stand : {k l r : SyntaxKind} (w : IsBracketed k l r) (t u : Token) (x : AnnotatedForest) (a b : Token) (y : AnnotatedForest)
     → t.kind ≡ l → u.kind ≡ r → a.kind ≡ l → b.kind ≡ r → BeginsItself k l t x r u → BeginsItself k l a y r b
     → {d m : ℕ} {s : Row} → Reads k d m (row k) s blank [] (token l a (y ⊕ one_token r b)) [] → may_end s ≡ true

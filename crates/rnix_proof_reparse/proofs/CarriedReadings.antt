@@ -1,4 +1,4 @@
--- A forest that is read without errors is read so before other items that are seen alike, after trees that are seen alike, and at another depth.
+-- A forest that is read without errors is also read before other items that look the same to a reading, after other trees that do, and at another depth.
 use Rattle.std.proofs.Common.{◌≡◌, ℕ, suc, ◌+◌, ◌<◌, ◌≤◌, max, Bool, true, false, List, [], ◌∷◌, ◌++◌, Option, Some, None, refl, ap, sym, ◌∙◌, subst, arith}
 use Rattle.std.proofs.Common.{if◌then◌else◌}
 use Rattle.rnix_kinds.specs.declared.kinds.SyntaxKind.{SyntaxKind}
@@ -20,17 +20,17 @@ use Rattle.rnix_proof_reparse.specs.Bracketed.{IsBracketed}
 use Rattle.rnix_proof_reparse.proofs.SwappedNodes.{Swapped, followed_swapped, repeats_before, swapped_first}
 use Rattle.rnix_proof_reparse.proofs.SeenItems.{Sees, sees_cons, sees_more, sees_node, head_seen, expected_seen, over_seen, seen_self, operand_seen}
 
--- trees before a forest: the same, the same except for the children of a bracketed node, or for the place of the first token
+-- two forests that look the same: they are equal, or equal except for the children of a bracketed node, or for the place of the first token
 pub data Kept (k : SyntaxKind) (c e : AnnotatedForest) : AnnotatedForest → AnnotatedForest → Type 0 where
   same : {f : AnnotatedForest} → Kept k c e f f
   swapped : {f g : AnnotatedForest} → Swapped k c e f g → Kept k c e f g
   placed : {j : SyntaxKind} {t u : Token} {f : AnnotatedForest} → Kept k c e (token j t f) (token j u f)
 
--- an error node leaves an error
+-- a second name of a pattern has an error
 pub no_second : {A : Type 0} (ds : List Fault) (ts : List Token) (es : List Fault) → (ds ++ report DoubleBind ts ∷ []) ++ es ≡ [] → A
 no_second ds ts es z = absurd (not_nil (none_right ds (report DoubleBind ts ∷ []) (none_remaining (ds ++ report DoubleBind ts ∷ []) es z)))
 
--- a node that is read without errors
+-- the rule for a node that is read without errors, in a forest that is
 pub clean_node : {p j : SyntaxKind} {d n : ℕ} {q q' s : Row} {b x f : AnnotatedForest} {us : List Token} → IsRoom q d
     → Reads j (deeper q d) n (row j) s blank (tokens_in f ++ us) x [] → IsOver s (end_from n (tokens_in x)) (tokens_in f ++ us)
     → IsExpected q n (tokens_in x ++ (tokens_in f ++ us)) (is_first_expected q j x) → IsFollowed q b (head_kind (tokens_in x ++ (tokens_in f ++ us)))
@@ -40,7 +40,7 @@ pub clean_node : {p j : SyntaxKind} {d n : ℕ} {q q' s : Row} {b x f : Annotate
 clean_node {p} {j} {d} {n} {q} {q'} {s} {b} {x} {f} {us} room hr over i o op none h =
     subst (λ z. Reads p d n q q' b us (branch j x f) z) (ap (λ z. ([] ++ z) ++ []) none) (inner room hr over i o op h)
 
--- the depth of a node and of the forest after it
+-- the limit allows a node, and the forest after it
 pub record IsRoomy (q : Row) (d x y : ℕ) : Type 0 where
   pub here : IsRoom q d
   pub inside : deeper q d + x ≤ depth_limit
@@ -65,7 +65,7 @@ deeper_room q d room l = by (counts q) room
     by true h = let m : d < depth_limit = h refl in omega (arith, m)
     by false h = l
 
--- what is read without errors nests no deeper than may be
+-- a forest that is read without errors nests within the limit
 pub room_remaining : {p : SyntaxKind} {d n : ℕ} {q q' : Row} {b : AnnotatedForest} {us : List Token} {f : AnnotatedForest} {es : List Fault}
     → Reads p d n q q' b us f es → es ≡ [] → d ≤ depth_limit → d + depth_of q f ≤ depth_limit
 room_remaining end z l = omega (arith, l)
@@ -78,7 +78,7 @@ room_remaining {d = d} {q = q} {b = b} (inner {k = j} {c = x} {f = f} {ds = ds} 
     both_by (counts q) d (depth_of (row j) x) (depth_of (after q j) f)
     (room_remaining hr (none_remaining ds (repeats j b x) none) (deeper_room q d room l)) (room_remaining h (none_right (ds ++ repeats j b x) es z) l)
 
--- what is left of the row is known
+-- the rest of the row after such a forest is known
 pub known_end : {p : SyntaxKind} {d n : ℕ} {q q' : Row} {b : AnnotatedForest} {us : List Token} {f : AnnotatedForest} {es : List Fault}
     → Reads p d n q q' b us f es → es ≡ [] → IsKnown p q → IsKnown p q'
 known_end end z k = k
@@ -89,7 +89,7 @@ known_end (second {c = x} {ds = ds} {es = es} hr over h) z k = no_second ds (tok
 known_end {b = b} (inner {k = j} {c = x} {ds = ds} {es = es} room hr over i o op h) z k =
     known_end h (none_right (ds ++ repeats j b x) es z) (known_after j k)
 
--- a token at another place is followed by the same, and names nothing
+-- a token at another place may be followed by the same items, and adds no name
 followed_placed : (q : Row) (j : SyntaxKind) (t u : Token) (f : AnnotatedForest) (next : Option SyntaxKind) → IsFollowed q (token j t f) next
     → IsFollowed q (token j u f) next
 followed_placed (Suffix kind · q) j t u f (Some i) h = h
@@ -121,7 +121,7 @@ module _ {k l r : SyntaxKind} (w : IsBracketed k l r) {c e : AnnotatedForest} wh
   kept_repeats j d (swapped s) = repeats_before w j d s
   kept_repeats j d (placed {j = i} {t = t} {u = u} {f = f}) = repeats_placed j d i t u f
 
-  -- a node before other forests that are seen alike
+  -- a node is also read before other forests that look the same
   pub carried : {p j : SyntaxKind} {m n : ℕ} {q q' s : Row} {b g x y : AnnotatedForest} {vs : List Token} (us : List Token) (f : AnnotatedForest) → IsRoom q m
       → Sees (tokens_in f ++ us) (tokens_in y ++ vs) → Reads j (deeper q m) n (row j) s blank (tokens_in y ++ vs) x []
       → IsOver s (end_from n (tokens_in x)) (tokens_in f ++ us) → IsExpected q n (tokens_in x ++ (tokens_in f ++ us)) (is_first_expected q j x)
@@ -158,7 +158,7 @@ module _ {k l r : SyntaxKind} (w : IsBracketed k l r) {c e : AnnotatedForest} wh
       (none_right ds (repeats j b x) none)
       (carry h (none_right (ds ++ repeats j b x) es z) m deep.behind (kept_first (one_branch j x) kept) vs sees)
 
--- where no more trees are read the forest is as it was
+-- if the row is complete after a forest, no more trees are read
 nothing_more : {p : SyntaxKind} {d n : ℕ} {q q' : Row} {b : AnnotatedForest} {us : List Token} {f : AnnotatedForest} {es : List Fault}
     → Reads p d n q q' b us f es → f ≡ blank → es ≡ [] → q ≡ q'
 nothing_more end e z = refl
@@ -168,7 +168,7 @@ nothing_more (missing_part u t m o h) e z = absurd (not_nil z)
 nothing_more (wrong note ts x o v h) e z = absurd (not_nil z)
 nothing_more (second {c = x} {ds = ds} {es = es} hr over h) e z = no_second ds (tokens_in x) es z
 
--- a token that ends elsewhere
+-- a token that ends at another byte
 abbrev pub ending : Token → ℕ → Token
 ending t z = record { kind = t.kind; text = t.text; start = t.start; end = z }
 
@@ -179,7 +179,7 @@ sees_closed x j u us z vs h =
     (subst (λ a. Sees (tokens_in x ++ (u ∷ us)) a) (sym (tokens_two x (one_token j (ending u z)) vs)) (sees_more (tokens_in x) (u ∷ us) (ending u z ∷ vs) h))
 
 module _ {k l r : SyntaxKind} (w : IsBracketed k l r) {c e : AnnotatedForest} where
-  -- a forest that ends with a token of its own
+  -- a forest that ends with a token of its own is also read before other items
   pub close : (x : AnnotatedForest) (j : SyntaxKind) (u : Token) {p : SyntaxKind} {d n : ℕ} {q q' : Row} {b : AnnotatedForest} {us : List Token}
       {es : List Fault}
       → Reads p d n q q' b us (x ⊕ one_token j u) es → es ≡ [] → (m : ℕ) → m + depth_of q (x ⊕ one_token j u) ≤ depth_limit

@@ -1,4 +1,4 @@
--- In trees that are read without errors a bracketed node that is an expression is followed by neither `:` nor `@`.
+-- In trees that are read without errors, neither `:` nor `@` follows a bracketed node that is an expression.
 use Rattle.std.proofs.Common.{◌≡◌, ◌⊎◌, inl, inr, ℕ, Bool, true, false, List, [], ◌∷◌, ◌++◌, Option, Some, None, refl, ap, sym, ◌∙◌, subst, append_assoc}
 use Rattle.std.proofs.Common.{if◌then◌else◌, ◌&&◌, ◌||◌, nat_eq}
 use Rattle.std.specs.List.{list_all}
@@ -58,20 +58,20 @@ bracketed_end list = refl
 bracketed_end paren = refl
 bracketed_end string = refl
 
--- neither `:` nor `@` is expected where names end
+-- the row expects neither `:` nor `@`
 abbrev is_colonless_row : Row → Bool
 is_colonless_row r =
     (if expects_item r true TOKEN_COLON then false else true) && ((if expects_item r false TOKEN_COLON then false else true)
     && ((if expects_item r true TOKEN_AT then false else true) && (if expects_item r false TOKEN_AT then false else true)))
 
--- the nodes that may come next: an argument, an item of a list, a name
+-- the only nodes that may come next are an argument, an item of a list, or a name
 abbrev has_colonless_nodes : Row → Bool
 has_colonless_nodes (Argument · r) = true
 has_colonless_nodes (Many level closer · r) = true
 has_colonless_nodes (Names · r) = is_colonless_row r
 has_colonless_nodes r = list_all (λ j. if has_row j && is_viable (after r j) then false else true) all_kinds
 
--- what may follow a node that may end so
+-- after a node that may end with a bracket, neither `:` nor `@` may come next in the row
 abbrev goes_colonless : SyntaxKind → Row → Bool
 goes_colonless i r =
     (if is_viable (after r TOKEN_COLON) then false else true) && ((if is_viable (after r TOKEN_AT) then false else true)
@@ -101,7 +101,7 @@ colonless_behind {i} q j known h v =
       nodes = c.1;
     }
 
--- what makes a function after `}`
+-- only `:` or `@` after `}` makes a pattern of the braces
 after_brace : (k : SyntaxKind) → is_pattern (Some TOKEN_R_BRACE) (Some k) ≡ true → (k ≡ TOKEN_COLON) ⊎ (k ≡ TOKEN_AT)
 after_brace TOKEN_COLON h = inl refl
 after_brace TOKEN_AT h = inr refl
@@ -128,7 +128,7 @@ leaf_at NODE_IDENT = refl
 leaf_at NODE_CUR_POS = refl
 leaf_at _ = refl
 
--- nodes that are read have tokens
+-- a node that is read has tokens
 row_some : (k : SyntaxKind) → may_end (row k) ≡ false
 row_some k = not_if (may_end (row k)) (every (λ k. if may_end (row k) then false else true) refl k)
 
@@ -143,7 +143,7 @@ some_read {b = b} (inner {k = j} {c = x} {f = f} {ds = ds} {es = es} room hr ove
     some_first (tokens_in x) (tokens_in f)
     (some_read hr (none_remaining ds (repeats j b x) (none_remaining (ds ++ repeats j b x) es z)) over.0 (row_some j))
 
--- none begins with `:`, and what begins with `@` is known by its first tree
+-- the items of a node do not begin with `:`, and if they begin with `@`, the node's first tree is no error node
 abbrev IsNamedHead : SyntaxKind → AnnotatedForest → List Token → Type 0
 IsNamedHead k x [] = Unit {0}
 IsNamedHead k x (t ∷ ts) = (t.kind ≡ TOKEN_COLON → ⊥) × (t.kind ≡ TOKEN_AT → (f : AnnotatedForest) → first_tree (branch k x f) ≡ NODE_ERROR → ⊥)
@@ -163,7 +163,7 @@ bind_named k e x f h = no_error (sym (ap (λ k. first_tree (branch k x f)) e) �
 no_error_row : (k : SyntaxKind) → has_row k ≡ true → k ≡ NODE_ERROR → ⊥
 no_error_row k h e = true_is_not_false (sym h ∙ ap has_row e)
 
--- a node whose first child is a node
+-- the first tree of a node whose first child is a node is no error node
 node_named : (k j : SyntaxKind) (y g f : AnnotatedForest) → has_row k ≡ true → has_row j ≡ true
     → ((h : AnnotatedForest) → first_tree (branch j y h) ≡ NODE_ERROR → ⊥) → first_tree (branch k (branch j y g) f) ≡ NODE_ERROR → ⊥
 node_named NODE_BIN_OP j y g f r s h e = h g e
@@ -194,7 +194,7 @@ named_head {k} {b = b} (inner {k = j} {s = t} {c = y} {f = g} {ds = ds} {es = es
     let own : has_row j ≡ true = reads_row hr over.0 in
     head_more k j y g (tokens_in y) (tokens_in g) r own (some_read hr none over.0 (row_some j)) (named_head hr none refl over.0 own)
 
--- a node that comes next
+-- no item that may follow a function as its argument makes a pattern of braces before it
 follow_colonless : (next : Option SyntaxKind) (r : Row) (b : AnnotatedForest) → IsFollowed (Argument · r) b next → is_pattern (Some TOKEN_R_BRACE) next ≡ false
 follow_colonless None r b h = refl
 follow_colonless (Some k) r b h =
@@ -239,7 +239,7 @@ node_colonless (Many level closer · r) b j x n us h own v i o op some named = o
 node_colonless r b j x n us h own v i o op some named =
     absurd (true_is_not_false (sym (implied (λ j. has_row j && is_viable (after r j)) (λ j. false) h j (and_from (has_row j) (is_viable (after r j)) own v))))
 
--- what comes next in a row after such a node
+-- after a node that may end with a bracket, what comes next in the row begins with neither `:` nor `@`
 next_colonless : {p : SyntaxKind} {d n : ℕ} {r q' : Row} {b f : AnnotatedForest} {us : List Token} {es : List Fault} → Reads p d n r q' b us f es → es ≡ []
     → GoesColonless p r → may_end q' ≡ true → (may_end_bracketed p ≡ true → IsColonless us) → IsColonless (tokens_in f ++ us)
 next_colonless end z g e c = c (g.ends e)
@@ -258,7 +258,7 @@ next_colonless {n = n} {r = r} {q' = q'} {b = b} {us = us} (inner {k = j} {c = x
     (node_colonless r b j x n (tokens_in f ++ us) g.nodes own (reads_viable h (end_viable q' e)) i o op (some_read hr none over.0 (row_some j))
     (named_head hr none refl over.0 own))
 
--- so it is after each bracketed node
+-- so neither `:` nor `@` follows a bracketed node
 pub colonless_after : {k l r : SyntaxKind} (w : IsBracketed k l r) {c e : AnnotatedForest} {p : SyntaxKind} {d n : ℕ} {q q' : Row} {b f g : AnnotatedForest}
     {us : List Token} {es : List Fault} → Reads p d n q q' b us f es → es ≡ [] → IsKnown p q → may_end q' ≡ true
     → (may_end_bracketed p ≡ true → IsColonless us) → (s : Swapped k c e f g) → IsColonlessAfter s us

@@ -1,4 +1,4 @@
--- A forest that is read without errors nests no deeper along its row than by the kinds of nodes.
+-- A forest that is read without errors nests along its row at most as deep as by the kinds of its nodes.
 use Rattle.std.proofs.Common.{◌≡◌, ℕ, suc, ◌≤◌, max, Bool, true, false, List, [], ◌++◌, refl, ap, sym, subst, arith, if◌then◌else◌, ◌&&◌}
 use Rattle.std.specs.List.{list_all}
 use Rattle.std.proofs.lemmas.Bool.{and_from}
@@ -23,20 +23,20 @@ use Rattle.rnix_proof_completeness.proofs.PartReads.{depth_in}
 use Rattle.rnix_proof_reparse.proofs.CarriedReadings.{no_second}
 use Rattle.rnix_proof_reparse.proofs.ReplacedReadings.{nesting}
 
--- a node, and the forest after it, by the kinds of nodes
+-- how deep a node and the forest after it nest, by kinds
 nest_node : (p k : SyntaxKind) (c t : Forest) → nest p (node k c t) ≡ max (if nests p k then suc (depth_in k c) else depth_in k c) (nest p t)
 nest_node p NODE_PAT_ENTRY (node j d e) t =
     ap (λ w. max (if w then suc (nest NODE_PAT_ENTRY e) else nest NODE_PAT_ENTRY e) (nest p t)) (sym (choice (λ w. w ≡ false) (counts_no_child p) refl refl))
 nest_node p NODE_PAT_ENTRY _ t = refl
 nest_node p _ c t = refl
 
--- the first node of a forest, a name of which has none inside, and what is after it
+-- what is known of the first node of a forest: a name contains no nodes, and the trees after it nest within their kinds
 abbrev Head : SyntaxKind → Row → AnnotatedForest → Type 0
 Head p q (branch j y g) = (is_viable (after q j) ≡ true) × (j ≡ NODE_IDENT → depth_of (row j) y ≡ 0) × (depth_of (after q j) g ≤ nest p (forget g))
 Head p q (fault n y g) = ⊥
 Head p q f = Unit {0}
 
--- a forest by the kinds of nodes
+-- a forest nests along its row at most as deep as by kinds, and a name's children not at all
 record IsBounded (p : SyntaxKind) (q : Row) (f : AnnotatedForest) : Type 0 where
   whole : depth_of q f ≤ nest p (forget f)
   head : Head p q f
@@ -57,7 +57,7 @@ inside_bounded NODE_PAT_ENTRY blank whole head = whole
 inside_bounded NODE_PAT_ENTRY (token j t g) whole head = whole
 inside_bounded _ c whole head = whole
 
--- the children of a name have no nodes
+-- a name has no nodes as children
 abbrev has_no_nodes : SyntaxKind → Row → Bool
 has_no_nodes i q = if same_kind NODE_IDENT i then list_all (λ k. if has_row k && is_viable (after q k) then false else true) all_kinds else true
 
@@ -99,7 +99,7 @@ row_bounded {p} {q = q} {b = b} (inner {k = k} {s = s} {c = x} {f = f} {ds = ds}
       name = λ e. no_node q k (subst (λ (i : SyntaxKind). IsKnown i q) e known) own more;
     }
 
--- so it is with each node that is read without errors
+-- this holds for each forest that is read without errors
 pub depth_bounded : {p : SyntaxKind} {d n : ℕ} {q q' : Row} {b : AnnotatedForest} {us : List Token} {f : AnnotatedForest} {es : List Fault}
     → Reads p d n q q' b us f es → es ≡ [] → IsKnown p q → is_viable q' ≡ true → depth_of q f ≤ nest p (forget f)
 depth_bounded r z known v = (row_bounded r z known v).whole

@@ -1,4 +1,4 @@
--- Trees with trivia are determined by the trees without and the lexemes.
+-- Trees without trivia and the lexemes determine the trees with trivia.
 use Rattle.std.proofs.Common.{◌≡◌, true, false, List, [], ◌∷◌, map, refl, ap, sym, ◌∙◌, if◌then◌else◌}
 use Rattle.rnix_kinds.specs.SyntaxKind.{is_trivia}
 use Rattle.rnix_kinds.specs.Lexical.Tokens.{Lexeme}
@@ -13,7 +13,7 @@ abbrev item_lexemes : List Lexeme → List Lexeme
 item_lexemes [] = []
 item_lexemes (l ∷ ls) = if is_trivia l.0 then item_lexemes ls else l ∷ ls
 
--- the trivia before it, as leaves
+-- the trivia before the first item, as leaves
 abbrev trivia_leaves : List Lexeme → Forest
 trivia_leaves [] = empty
 trivia_leaves (l ∷ ls) = if is_trivia l.0 then leaf l.0 l.1 (trivia_leaves ls) else empty
@@ -22,13 +22,13 @@ abbrev later_lexemes : List Lexeme → List Lexeme
 later_lexemes [] = []
 later_lexemes (l ∷ ls) = ls
 
--- the lexemes after trees
+-- the lexemes that remain after the items of some trees
 abbrev lexemes_after : Forest → List Lexeme → List Lexeme
 lexemes_after empty ls = ls
 lexemes_after (leaf k t f) ls = lexemes_after f (later_lexemes (item_lexemes ls))
 lexemes_after (node k c f) ls = lexemes_after f (lexemes_after c (item_lexemes ls))
 
--- trees with the trivia of lexemes
+-- trees with the trivia that the lexemes have between their items
 abbrev dressed : Forest → List Lexeme → Forest
 dressed empty ls = empty
 dressed (leaf k t f) ls = join (trivia_leaves ls) (leaf k t (dressed f (later_lexemes (item_lexemes ls))))
@@ -50,7 +50,7 @@ later_same : (ts : List Token) → map lexeme_of (tail_of ts) ≡ later_lexemes 
 later_same [] = refl
 later_same (t ∷ ts) = refl
 
--- after the first item
+-- the lexemes after the first item
 behind_first : (ts : List Token) → map lexeme_of (tail_of (from_item ts)) ≡ later_lexemes (item_lexemes (map lexeme_of ts))
 behind_first ts = later_same (from_item ts) ∙ ap later_lexemes (from_lexemes ts)
 
@@ -90,7 +90,7 @@ all_lexemes f h ts =
     ∙ ap (λ z. join z (forget (trivia_before (remaining_after f ts)))) (with_lexemes f h ts)
     ∙ ap (join (dressed (forget f) (map lexeme_of ts))) (before_lexemes (remaining_after f ts) ∙ ap trivia_leaves (remaining_lexemes f h ts))
 
--- so the same trees with the trivia of the same lexemes are the same
+-- so equal trees with the trivia of equal lexemes are equal
 pub dressed_same : (f g : AnnotatedForest) → AreErrorFreeRows f → AreErrorFreeRows g → (ts us : List Token) → forget f ≡ forget g
     → map lexeme_of ts ≡ map lexeme_of us → forget (with_all_trivia f ts) ≡ forget (with_all_trivia g us)
 dressed_same f g h w ts us e l =

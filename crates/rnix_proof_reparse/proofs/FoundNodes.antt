@@ -1,4 +1,4 @@
--- The node in a tree that is read: its items, those before and after it, and the tree with other children there.
+-- A node in a tree that is read: its items, those before and after it, and the tree with other children in this node.
 use Rattle.std.proofs.Common.{◌≡◌, ℕ, suc, List, [], ◌∷◌, ◌++◌, refl, ap, sym, ◌∙◌, subst, append_assoc, if◌then◌else◌}
 use Rattle.std.specs.Prelude.{flat_map}
 use Rattle.rnix_kinds.specs.declared.kinds.SyntaxKind.{SyntaxKind}
@@ -17,7 +17,7 @@ use Rattle.rnix_proof_reparse.proofs.SwappedNodes as s
 abbrev pub tokens_text : List Token → List ℕ
 tokens_text = flat_map (λ (t : Token). t.text)
 
--- trees with other children there
+-- the tree with other children in the node
 pub record IsPut (c : Context) (p k : SyntaxKind) (a d e : AnnotatedForest) (first last : List Token) : Type 0 where
   pub trees : AnnotatedForest
   pub swapped : Swapped k d e a trees
@@ -26,7 +26,7 @@ pub record IsPut (c : Context) (p k : SyntaxKind) (a d e : AnnotatedForest) (fir
   pub levels : levels p swapped ≡ levels_around p k c
   pub kinds : HaveLeafKinds k e → HaveLeafKinds p trees
 
--- a node of a kind in trees that are read
+-- a node of the kind in a tree that is read
 pub record IsFound (c : Context) (p k : SyntaxKind) (a : AnnotatedForest) (d : Forest) : Type 0 where
   pub children : AnnotatedForest
   pub first : List Token
@@ -38,7 +38,7 @@ pub record IsFound (c : Context) (p k : SyntaxKind) (a : AnnotatedForest) (d : F
   pub edges : HaveItemEdges children
   pub put : (e : AnnotatedForest) → IsPut c p k a children e first last
 
--- the texts of two lists of tokens, and of the leaves of trees
+-- the text of two joined lists of tokens, and that of the leaves of trees
 pub text_tokens : (xs ys : List Token) → tokens_text (xs ++ ys) ≡ tokens_text xs ++ tokens_text ys
 text_tokens [] ys = refl
 text_tokens (t ∷ xs) ys = ap (λ z. t.text ++ z) (text_tokens xs ys) ∙ sym (append_assoc t.text (tokens_text xs) (tokens_text ys))
@@ -53,7 +53,7 @@ text_forest (fault k c f) =
     ap (λ z. z ++ text_of (forget f)) (text_forest c) ∙ ap (λ z. tokens_text (tokens_in c) ++ z) (text_forest f)
     ∙ sym (text_tokens (tokens_in c) (tokens_in f))
 
--- what equal trees have in common
+-- equal nodes have equal kinds, children and following trees
 pub kinds_of_nodes : {j k : SyntaxKind} {c d f g : Forest} → node j c f ≡ node k d g → (j ≡ k) × (c ≡ d) × (f ≡ g)
 kinds_of_nodes e = (cc, cc, cc)
 
@@ -72,7 +72,7 @@ no_end e = absurd (cc)
 pub no_node : {A : Type 0} {j k : SyntaxKind} {t : List ℕ} {c f g : Forest} → node k c g ≡ leaf j t f → A
 no_node e = absurd (cc)
 
--- the node is found where the tree has it
+-- the node in the trees is found in the annotated forest
 pub find : (c : Context) (p k : SyntaxKind) (a : AnnotatedForest) (d : Forest) → forget a ≡ filled c k d → HaveLeafKinds p a → HaveItemEdges a
     → IsFound c p k a d
 find (x.here f) p k blank d e l h = no_empty e

@@ -1,4 +1,4 @@
--- The reading of a node inside trees that are read without errors, and of a node alone.
+-- The reading of a node inside a tree that is read without errors, and the reading of a text that is one node.
 use Rattle.std.proofs.Common.{◌≡◌, ℕ, zero, suc, Bool, true, false, List, [], ◌∷◌, ◌++◌, map, refl, ap, sym, ◌∙◌, subst, append-nil, if◌then◌else◌}
 use Rattle.rnix_kinds.specs.declared.kinds.SyntaxKind.{SyntaxKind}
 use Rattle.rnix_kinds.specs.SyntaxKind.{is_trivia}
@@ -23,7 +23,7 @@ use Rattle.rnix_proof_reparse.proofs.CarriedReadings.{no_second}
 use Rattle.rnix_proof_reparse.proofs.BracketedNodes.{bracketed, BeginsItself, opened}
 use Rattle.rnix_proof_reparse.proofs.BalancedItems.{is_within, balanced_inside}
 
--- a node that is read somewhere without errors
+-- the node is read without errors at some place
 pub record IsNodeAt (k : SyntaxKind) (x : AnnotatedForest) : Type 0 where
   pub depth : ℕ
   pub prev : ℕ
@@ -53,7 +53,7 @@ node_at {b = b} (inner {k = j} {c = x} {ds = ds} {es = es} room hr over i o op h
     node_at hr (none_remaining ds (repeats j b x) (none_remaining (ds ++ repeats j b x) es z)) s
 node_at {b = b} (inner {k = j} {c = x} {ds = ds} {es = es} room hr over i o op h) z (past_branch s) = node_at h (none_right (ds ++ repeats j b x) es z) s
 
--- a text of one node
+-- the node is the whole expression of a text
 pub record IsAlone (k : SyntaxKind) (x : AnnotatedForest) : Type 0 where
   pub depth : ℕ
   pub rest : Row
@@ -61,7 +61,7 @@ pub record IsAlone (k : SyntaxKind) (x : AnnotatedForest) : Type 0 where
   pub ended : may_end rest ≡ true
   pub begins : BeginsAs 0 (one_branch k x) ((tokens_in x ++ []) ++ [])
 
--- the only node of a forest
+-- the node is the only one of a forest
 record IsOnly (k : SyntaxKind) (x : AnnotatedForest) (q : Row) (d n : ℕ) (us : List Token) : Type 0 where
   rest : Row
   reads : Reads k (deeper q d) n (row k) rest blank us x []
@@ -84,7 +84,7 @@ alone h z =
     let o = only_node h z in
     record { depth = 1; rest = o.rest; reads = o.reads; ended = o.ended; begins = o.operand.1 }
 
--- its items begin it
+-- a bracketed node is its own first tree
 kind_first : {k l r : SyntaxKind} → IsBracketed k l r → (x : AnnotatedForest) → first_tree (one_branch k x) ≡ k
 kind_first set x = refl
 kind_first list x = refl

@@ -1,4 +1,4 @@
--- Trees whose nodes begin and end with items have their trivia where a reading puts them.
+-- If the nodes of trees begin and end with items, the trivia are where a reading puts them.
 use Rattle.std.proofs.Common.{◌≡◌, Bool, true, false, List, [], ◌∷◌, ◌++◌, refl, ap, sym, ◌∙◌, subst, append_assoc}
 use Rattle.rnix_kinds.specs.declared.kinds.SyntaxKind.{SyntaxKind}
 use Rattle.rnix_kinds.specs.SyntaxKind.{is_trivia}
@@ -10,12 +10,12 @@ use Rattle.rnix_proof_lemmas.proofs.Basics.{true_is_not_false, not_nil}
 use Rattle.rnix_proof_lemmas.proofs.LayoutLemmas.{trivia_keeps_kind}
 use Rattle.rnix_proof_lemmas.proofs.ReportLemmas.{without_trivia_tokens}
 
--- tokens that begin with an item
+-- the tokens begin with an item
 abbrev pub StartsWithItem : List Token → Type 0
 StartsWithItem [] = ⊥
 StartsWithItem (t ∷ ts) = is_trivia t.kind ≡ false
 
--- tokens that end with an item, if there are any
+-- the tokens are empty or end with an item
 abbrev pub StopsWithItem : List Token → Type 0
 StopsWithItem [] = Unit {0}
 StopsWithItem (t ∷ []) = is_trivia t.kind ≡ false
@@ -28,7 +28,7 @@ HaveItemEdges (token k t f) = HaveItemEdges f
 HaveItemEdges (branch k c f) = StartsWithItem (tokens_in c) × StopsWithItem (tokens_in c) × HaveItemEdges c × HaveItemEdges f
 HaveItemEdges (fault n c f) = ⊥
 
--- tokens after others
+-- the rest of tokens that end with an item ends with an item
 stops_behind : (t : Token) (ts : List Token) → StopsWithItem (t ∷ ts) → StopsWithItem ts
 stops_behind t [] h = tt
 stops_behind t (u ∷ ts) h = h
@@ -37,7 +37,7 @@ pub stops_second : (ts us : List Token) → StopsWithItem (ts ++ us) → StopsWi
 stops_second [] us h = h
 stops_second (t ∷ ts) us h = stops_second ts us (stops_behind t (ts ++ us) h)
 
--- an item, or trivia, before others
+-- whether the first token is an item or trivia
 item_first : (t : Token) (ts : List Token) → is_trivia t.kind ≡ false → (trivia_before (t ∷ ts) ≡ blank) × (from_item (t ∷ ts) ≡ t ∷ ts)
 item_first t ts e = (ap (λ b. trivia_if b t (trivia_before ts)) e, ap (λ b. from_item_if b t ts (from_item ts)) e)
 
@@ -49,7 +49,7 @@ starts_first : (ts us : List Token) → StartsWithItem ts → (trivia_before (ts
 starts_first [] us h = absurd h
 starts_first (t ∷ ts) us h = item_first t (ts ++ us) h
 
--- tokens that are some and end with an item have one
+-- tokens that end with an item contain one
 some_items : (t : Token) (ts : List Token) → StopsWithItem (t ∷ ts) → items (t ∷ ts) ≡ [] → ⊥
 some_items t [] h e = not_nil (sym (ap (λ b. item_if b t []) h) ∙ e)
 some_items t (u ∷ ts) h e = by (is_trivia t.kind) refl (some_items u ts h)
@@ -62,7 +62,7 @@ some_items t (u ∷ ts) h e = by (is_trivia t.kind) refl (some_items u ts h)
 trivia_leaf : (p k : SyntaxKind) (t : Token) → k ≡ leaf_kind p t → is_trivia t.kind ≡ true → t.kind ≡ k
 trivia_leaf p k t e i = trivia_keeps_kind p t.kind i ∙ sym e
 
--- trees with their trivia, after trivia
+-- trees are not empty, so the trivia before them come first
 abbrev IsSome : AnnotatedForest → Type 0
 IsSome blank = ⊥
 IsSome f = Unit {0}
@@ -107,7 +107,7 @@ all_behind_trivia (fault n c f) t ts e =
     ap (λ z. z ⊕ trivia_before (remaining_after (fault n c f) (t ∷ ts))) w.0
     ∙ ap (λ z. token t.kind t (with_trivia (fault n c f) ts) ⊕ trivia_before z) w.1
 
--- an item, and a node that begins with one, before others
+-- an item, or a node that begins with one, has no trivia before it
 item_placed : (k : SyntaxKind) (t : Token) (g : AnnotatedForest) (ts : List Token) → is_trivia t.kind ≡ false
     → (with_trivia (token k t g) (t ∷ ts) ≡ token k t (with_trivia g ts)) × (remaining_after (token k t g) (t ∷ ts) ≡ remaining_after g ts)
 item_placed k t g ts e =
@@ -125,7 +125,7 @@ node_placed k c f ts w = (
   ap (λ z. remaining_after f (remaining_after c z)) w.1,
 )
 
--- a forest before others, which ends with an item
+-- a forest that ends with an item gets back its own trivia, whatever follows it
 abbrev IsPlaced : AnnotatedForest → AnnotatedForest → List Token → List Token → Type 0
 IsPlaced f g ts us = (with_trivia g ts ≡ f) × (remaining_after g ts ≡ us)
 
@@ -164,7 +164,7 @@ row_placed p (branch k c f) us l e h =
       w.1 ∙ ap (remaining_after (without_trivia f)) inside.1 ∙ behind.1,
     )
 
--- a whole forest
+-- a whole forest gets back its own trivia
 pub placed_again : (p : SyntaxKind) (f : AnnotatedForest) → HaveLeafKinds p f → HaveItemEdges f → with_all_trivia (without_trivia f) (tokens_in f) ≡ f
 placed_again p blank l e = refl
 placed_again p (fault n c f) l e = absurd e

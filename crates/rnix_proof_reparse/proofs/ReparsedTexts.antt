@@ -1,4 +1,4 @@
--- A text in which a bracketed node was replaced by another that is read without errors alone has the old tree with the new node in place of the old one.
+-- If a bracketed node of a text is replaced by another that is read alone without errors, the new text has the old tree with the new node in it.
 use Rattle.std.proofs.Common.{◌≡◌, ℕ, ◌+◌, ◌≤◌, List, [], ◌∷◌, ◌++◌, map, None, refl, ap, sym, ◌∙◌, subst, append-nil, arith}
 use Rattle.rnix_kinds.specs.declared.kinds.SyntaxKind.{SyntaxKind}
 use Rattle.rnix_kinds.specs.declared.kinds.SyntaxKind.TheVariants.{NODE_ROOT}
@@ -40,7 +40,7 @@ use Rattle.rnix_proof_reparse.proofs.ReparsedTrees.{moved_forest, read_as_trees}
 use Rattle.rnix_proof_reparse.proofs.ColonlessItems.{colonless_after}
 use Rattle.rnix_proof_reparse.proofs.SetBeginnings.{begins_itself}
 
--- the old text: the node in its tree
+-- the old text: its tokens, and the node in its tree
 record IsSite (place : Context) (k l r : SyntaxKind) (s v : List ℕ) (inside : Forest) (ls : List Lexeme) (a : AnnotatedForest) : Type 0 where
   opening : Token
   closing : Token
@@ -75,7 +75,7 @@ site {k} {l} {r} w place s v d ls o =
       put = λ e. subst (λ z. IsPut place NODE_ROOT k a z e f.first f.last) b.is (f.put e);
     }
 
--- the new node alone
+-- the new node alone: its tokens, and its reading
 record IsNew (k l r : SyntaxKind) (s v : List ℕ) (d : Forest) (ls : List Lexeme) : Type 0 where
   opening : Token
   closing : Token
@@ -120,7 +120,7 @@ new_depth {k} {l} {r} n =
     subst (λ z. depth_of (row k) (bracketed l n.opening (without_trivia n.inner) r n.closing) ≤ nest k z) n.bare
     (depth_bounded one.reads refl (known_row k) (end_viable one.rest one.ended))
 
--- the new node in place of the old one
+-- the new node replaces the old one
 module _ {k l r : SyntaxKind} (w : IsBracketed k l r) {place : Context} {s v : List ℕ} {d e : Forest} {ls ms : List Lexeme}
     (o : IsCleanTree ls (filled place k (between l s d r v))) (m : IsSite place k l r s v d ls o.annotated) (n : IsNew k l r s v e ms) where
   abbrev there : AnnotatedForest
@@ -162,7 +162,7 @@ module _ {k l r : SyntaxKind} (w : IsBracketed k l r) {place : Context} {s v : L
       (node_alike w m.first (tokens_in n.inner) m.last (starting n.opening m.opening.start) (ending n.closing m.closing.end) n.kinds.opening n.kinds.closing
       old.0 inner.0 behind.1.2 ts placed same)
 
--- the tokens of the old text
+-- the tokens of the old text, before, in and after the node
 old_tokens : {k l r : SyntaxKind} (w : IsBracketed k l r) {place : Context} {s v : List ℕ} {d : Forest} (before old after : List ℕ)
     (o : IsCleanTree (tokens_of (before ++ (old ++ after))) (filled place k (between l s d r v)))
     (m : IsSite place k l r s v d (tokens_of (before ++ (old ++ after))) o.annotated) → IsNodeAt k (bracketed l m.opening (without_trivia m.inner) r m.closing)
@@ -192,7 +192,7 @@ new_tokens w new n joined =
       balanced = balanced_between w n.opening n.closing (without_trivia n.inner) one.reads one.ended (tokens_in n.inner) (sym (without_trivia_tokens n.inner));
     }
 
--- the law
+-- the law `reparsing`
 pub reparsed : (before old after new : List ℕ) → MayReplace before old after [] new [] → texts (tokens_of new) ≡ new → IsReparsed before old after new
 reparsed before old after new may joined place k l r s v d e h tree faults reading =
     let w = h.brackets in

@@ -25,7 +25,7 @@ bracket_opens list = (refl, refl)
 bracket_opens paren = (refl, refl)
 bracket_opens string = (refl, refl)
 
--- a bracketed node in a text, by its tokens
+-- the tokens of a text are those of a bracketed node, and those before and after it
 pub record HasNode (l r : SyntaxKind) (before part after : List ℕ) (t u : Token) (inner first last : List Token) : Type 0 where
   pub whole : placed_from 0 (tokens_of (before ++ (part ++ after))) ≡ first ++ (t ∷ (inner ++ (u ∷ last)))
   pub place : tokens_text first ≡ before
@@ -53,7 +53,7 @@ are_brackets w {before} {part} {after} {t} {u} {inner} {first} {last} h = record
   balanced = h.balanced;
 }
 
--- the tokens of the new text
+-- the tokens of the new text are those of the new node, and the old ones around it
 pub new_lexemes : {k l r : SyntaxKind} (w : IsBracketed k l r) {before old after new : List ℕ} {t u : Token} {inner first last : List Token} {a b : Token}
     {others : List Token} → MayReplace before old after [] new [] → HasNode l r before old after t u inner first last
     → HasNode l r [] new [] a b others [] [] → t.text ≡ a.text → u.text ≡ b.text

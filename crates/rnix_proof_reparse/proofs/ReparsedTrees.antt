@@ -1,4 +1,4 @@
--- The tree of a text in which a bracketed node was replaced by another that is read without errors alone.
+-- The tree of a text in which a bracketed node is replaced by another that is read alone without errors.
 use Rattle.std.proofs.Common.{◌≡◌, ℕ, ◌+◌, List, [], ◌∷◌, ◌++◌, map, None, refl, ap, sym, ◌∙◌, subst}
 use Rattle.rnix_kinds.specs.declared.kinds.SyntaxKind.{SyntaxKind}
 use Rattle.rnix_kinds.specs.declared.kinds.SyntaxKind.TheVariants.{NODE_ROOT}
@@ -40,7 +40,7 @@ pub bracket_tokens : (l : SyntaxKind) (t : Token) (x : AnnotatedForest) (r : Syn
     → tokens_in (bracketed l t x r u) ++ ts ≡ t ∷ (tokens_in x ++ (u ∷ ts))
 bracket_tokens l t x r u ts = ap (λ z. t ∷ z) (tokens_two x (one_token r u) ts)
 
--- the edges of the parts
+-- the nodes between the brackets, and the closing bracket, begin and end with items
 edges_join : (x : AnnotatedForest) (r : SyntaxKind) (u : Token) → HaveItemEdges x → HaveItemEdges (x ⊕ one_token r u)
 edges_join blank r u h = tt
 edges_join (token j t x) r u h = edges_join x r u h
@@ -53,7 +53,7 @@ edges_first (token j t x) r u h = edges_first x r u h
 edges_first (branch j c x) r u h = (h.0, h.1, h.2, edges_first x r u h.3)
 edges_first (fault n c x) r u h = absurd h
 
--- the kinds of the leaves of the parts
+-- the kinds of the brackets and of the leaves between them
 pub record HaveEndKinds (k l r : SyntaxKind) (t u : Token) (x : AnnotatedForest) : Type 0 where
   pub opening : t.kind ≡ l
   pub closing : u.kind ≡ r
@@ -72,7 +72,7 @@ end_kinds {k} {l} {r} w t u x h =
     let m = kinds_last k x r u h.1 in
     record { opening = sym (h.0 ∙ kind_alone w t.kind); closing = sym (m.1 ∙ kind_alone w u.kind); inner = m.0 }
 
--- a bracketed node at other places
+-- a bracketed node with the brackets' ranges of another one
 module _ {k l r : SyntaxKind} (w : IsBracketed k l r) (t u a b : Token) (x y : AnnotatedForest) (was : HaveEndKinds k l r t u x)
     (now : HaveEndKinds k l r a b y) where
   abbrev pub moved : AnnotatedForest
@@ -102,18 +102,18 @@ module _ {k l r : SyntaxKind} (w : IsBracketed k l r) (t u a b : Token) (x y : A
       (ap is_trivia now.closing ∙ (bracket_kinds w).1)))
       (may_stand w t u (without_trivia x) a b (without_trivia y) was.opening was.closing now.opening now.closing old new alone.reads alone.ended))
 
-  -- its trees
+  -- the trees of that node
   pub moved_forest : (s : List ℕ) (d : Forest) (v : List ℕ) → a.text ≡ s → forget y ≡ d → b.text ≡ v → forget moved ≡ between l s d r v
   moved_forest s d v e h g =
       ap (leaf l a.text) (forget-⊕ y (one_token r (ending b u.end)) ∙ ap (λ z. join z (leaf r b.text empty)) h ∙ ap (λ z. join d (leaf r z empty)) g)
       ∙ ap (λ z. leaf l z (join d (leaf r v empty))) e
 
--- the same errors as none
+-- errors that are the same as none are none
 no_errors : (xs ys : List Token) (es : List Fault) → AreSameFaults xs ys [] es → es ≡ []
 no_errors xs ys [] h = refl
 no_errors xs ys (e ∷ es) h = absurd h
 
--- trees that are read without errors, with the lexemes of a text whose items are alike theirs
+-- trees that are read without errors are the tree of a text whose items are like theirs
 pub read_as_trees : (p : AnnotatedForest) → ReadsRoot (without_trivia p) [] → HaveLeafKinds NODE_ROOT p → HaveItemEdges p → (ls : List Lexeme)
     → map lexeme_of (tokens_in p) ≡ ls → AreAlike None 0 0 (items (tokens_in p)) (items (placed_from 0 ls))
     → (tree : Tree) (faults : List Fault) → IsReading ls tree faults → (tree ≡ record { kind = NODE_ROOT; children = forget p }) × (faults ≡ [])

@@ -1,4 +1,4 @@
--- A reading without errors stays one when the children of one bracketed node are replaced by others that are read without errors there.
+-- A reading without errors stays one if the children of one bracketed node are replaced by others that can be read there without errors.
 use Rattle.std.proofs.Common.{◌≡◌, ℕ, suc, ◌+◌, ◌≤◌, Bool, true, false, List, [], ◌∷◌, ◌++◌, Some, refl, ap, sym, ◌∙◌, subst, arith, append_assoc}
 use Rattle.std.proofs.Common.{if◌then◌else◌, ◌&&◌}
 use Rattle.std.specs.List.{list_all}
@@ -26,11 +26,11 @@ use Rattle.rnix_proof_reparse.proofs.SwappedNodes.{follows_swapped, first_expect
 use Rattle.rnix_proof_reparse.proofs.SeenItems.{Sees, sees_self, sees_cons, sees_more, sees_node, head_seen, expected_seen, AreSeenAlike, operand_seen}
 use Rattle.rnix_proof_reparse.proofs.CarriedReadings.{same, swapped, clean_node, carried, carry, no_second, room_remaining, deeper_room}
 
--- the next item is neither `:` nor `@`, which would make a function after `}`
+-- the next item is neither `:` nor `@`, either of which would make a pattern of braces before it
 abbrev pub IsColonless : List Token → Type 0
 IsColonless us = is_pattern (Some TOKEN_R_BRACE) (head_kind us) ≡ false
 
--- so it is after the node
+-- the item after the node is neither
 abbrev pub IsColonlessAfter : {k : SyntaxKind} {c e f g : AnnotatedForest} → Swapped k c e f g → List Token → Type 0
 IsColonlessAfter (here {f = f}) us = IsColonless (tokens_in f ++ us)
 IsColonlessAfter (past_token s) us = IsColonlessAfter s us
@@ -38,7 +38,7 @@ IsColonlessAfter (past_branch s) us = IsColonlessAfter s us
 IsColonlessAfter (past_fault s) us = IsColonlessAfter s us
 IsColonlessAfter (inside {f = f} s) us = IsColonlessAfter s (tokens_in f ++ us)
 
--- how many counted expressions are around what is inside the node, in the children of a node of a kind
+-- how many counted expressions are around the inside of the node, below a node of the kind
 abbrev pub levels : {k : SyntaxKind} {c e f g : AnnotatedForest} → SyntaxKind → Swapped k c e f g → ℕ
 levels {k} p here = if nests p k then 1 else 0
 levels p (past_token s) = levels p s
@@ -46,13 +46,13 @@ levels p (past_branch s) = levels p s
 levels p (past_fault s) = levels p s
 levels p (inside {j = j} s) = if nests p j then suc (levels j s) else levels j s
 
--- a node that is read at a depth, after an item that ends at n, before others
+-- the children of a node are read at a depth, after an item that ends at `n`, before other items
 pub record IsNodeRead (k : SyntaxKind) (d n : ℕ) (x : AnnotatedForest) (us : List Token) : Type 0 where
   pub rest : Row
   pub reads : Reads k d n (row k) rest blank us x []
   pub over : IsOver rest (end_from n (tokens_in x)) us
 
--- a child that is counted along a row is counted by the kinds of nodes
+-- a child that counts along its row also counts by its kind
 abbrev goes_on : Row → SyntaxKind → Bool
 goes_on q j = has_row j && is_viable (after q j)
 
@@ -64,7 +64,7 @@ nesting {p} q j known h v e = implied (goes_on q) (nests p)
     (sym (ap (λ w. if w then list_all (λ j. if goes_on q j then nests p j else true) all_kinds else true) e)
     ∙ every_known is_nesting (λ i. refl) refl p q known) j (and_from (has_row j) (is_viable (after q j)) h v)
 
--- one level more
+-- the limit allows one level more if it allows it by kinds
 one_more : (c w : Bool) (d m : ℕ) → (c ≡ true → w ≡ true) → d + ((if w then 1 else 0) + m) ≤ depth_limit → (if c then suc d else d) + m ≤ depth_limit
 one_more true true d m h l = omega (arith, l)
 one_more true false d m h l = absurd (true_is_not_false (sym (h refl)))
@@ -78,12 +78,12 @@ some_more true false d x m h l = absurd (true_is_not_false (sym (h refl)))
 some_more false true d x m h l = omega (arith, l)
 some_more false false d x m h l = omega (arith, l)
 
--- where the last of two lists of items ends
+-- two joined lists of items end where the second ends, after the first
 pub end_more : (n : ℕ) (xs ys : List Token) → end_from n (xs ++ ys) ≡ end_from (end_from n xs) ys
 end_more n [] ys = refl
 end_more n (x ∷ xs) ys = end_more x.end xs ys
 
--- the other children: their first items, where they end, and that they are read
+-- the new children begin like the old ones, end at the same byte, and are read without errors wherever these may be
 pub record MayStand (k : SyntaxKind) (c e : AnnotatedForest) (m : ℕ) : Type 0 where
   pub sees : (us : List Token) → IsColonless us → Sees (tokens_in c ++ us) (tokens_in e ++ us)
   pub ends : (n : ℕ) → end_from n (tokens_in c) ≡ end_from n (tokens_in e)
@@ -119,11 +119,11 @@ module _ {k l r : SyntaxKind} (w : IsBracketed k l r) {c e : AnnotatedForest} {m
   ends_swapped (inside {d = d} {h = h} {f = f} s) n =
       end_more n (tokens_in d) (tokens_in f) ∙ ap (λ z. end_from z (tokens_in f)) (ends_swapped s n) ∙ sym (end_more n (tokens_in h) (tokens_in f))
 
-  -- trees that differ only so have the same first items
+  -- two forests that differ only in this node look the same to a reading
   seen_swapped : {f g : AnnotatedForest} → Swapped k c e f g → AreSeenAlike f g
   seen_swapped s = record { level = row_level_swapped w s; first = first_swapped w s; follow = λ i. follows_swapped w i s }
 
-  -- the node that is replaced, or one that contains it
+  -- the replaced node, or one that contains it, is read without errors
   node_replaced : {p j : SyntaxKind} {d n : ℕ} {q q' : Row} {b f : AnnotatedForest} {us : List Token} {es : List Fault} (x y : AnnotatedForest)
       → Swapped k c e (one_branch j x) (one_branch j y) → Sees (tokens_in x ++ (tokens_in f ++ us)) (tokens_in y ++ (tokens_in f ++ us))
       → end_from n (tokens_in x) ≡ end_from n (tokens_in y) → IsRoom q d → IsNodeRead j (deeper q d) n y (tokens_in f ++ us)

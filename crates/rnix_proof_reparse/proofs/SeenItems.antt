@@ -1,4 +1,4 @@
--- What a reading sees of the items ahead: the kind of the next one, where it starts, and how an operand begins there.
+-- What a reading depends on in the items ahead: the kind and the start of the next one, and what an operand begins with there.
 use Rattle.std.proofs.Common.{◌≡◌, ℕ, ◌≤◌, Bool, false, List, [], ◌∷◌, ◌++◌, Option, Some, None, refl, ap, sym, ◌∙◌, subst, if◌then◌else◌, ◌&&◌, nat_eq, nat_le}
 use Rattle.std.proofs.Common.{append-nil}
 use Rattle.rnix_kinds.specs.declared.kinds.SyntaxKind.{SyntaxKind}
@@ -18,7 +18,7 @@ abbrev pub start_kind : ℕ → List Token → SyntaxKind
 start_kind level [] = NODE_ERROR
 start_kind level (t ∷ ts) = first_kind level t.kind t.text (head_kind ts) (second_kind ts)
 
--- the same is seen of both
+-- two lists of items look the same to a reading
 abbrev pub Sees : List Token → List Token → Type 0
 Sees [] [] = Unit {0}
 Sees (t ∷ ts) (u ∷ us) =
@@ -42,13 +42,13 @@ pattern_seen (t ∷ ts) (u ∷ us) h = h.2
 pattern_seen [] (u ∷ us) h = absurd h
 pattern_seen (t ∷ ts) [] h = absurd h
 
--- the third item says how an operand begins by whether the second and it begin a pattern
+-- the third item matters only if the second and it decide about a pattern
 third_seen : (level : ℕ) (kind : SyntaxKind) (text : List ℕ) (second third other : Option SyntaxKind) → is_pattern second third ≡ is_pattern second other
     → first_kind level kind text second third ≡ first_kind level kind text second other
 third_seen level TOKEN_L_BRACE text second third other e = ap (λ w. if w then NODE_PATTERN else NODE_ATTR_SET) e
 third_seen level _ text second third other e = refl
 
--- so it is after another item
+-- lists that look the same still do after one more item
 pub sees_cons : (t : Token) (ts us : List Token) → Sees ts us → Sees (t ∷ ts) (t ∷ us)
 sees_cons t ts us h =
     let next : head_kind ts ≡ head_kind us = head_seen ts us h in
@@ -65,7 +65,7 @@ pub sees_more : (xs ts us : List Token) → Sees ts us → Sees (xs ++ ts) (xs +
 sees_more [] ts us h = h
 sees_more (x ∷ xs) ts us h = sees_cons x (xs ++ ts) (xs ++ us) (sees_more xs ts us h)
 
--- whether the next item is expected
+-- whether a row expects the next item is the same for both
 expects_seen : (q : Row) (n : ℕ) (ts us : List Token) → Sees ts us → expects q n ts ≡ expects q n us
 expects_seen q n [] [] h = refl
 expects_seen q n (t ∷ ts) (u ∷ us) h =
@@ -85,7 +85,7 @@ expected_seen q n ts us own h e = sym (expects_seen q n ts us h) ∙ e
 pub over_seen : (s : Row) (n : ℕ) (ts us : List Token) → Sees ts us → IsOver s n ts → IsOver s n us
 over_seen s n ts us h o = (o.0, expected_seen s n ts us false h o.1)
 
--- two trees that readings see alike
+-- two trees look the same to a reading
 pub record AreSeenAlike (x y : AnnotatedForest) : Type 0 where
   pub level : row_level x ≡ row_level y
   pub first : first_tree x ≡ first_tree y
@@ -94,7 +94,7 @@ pub record AreSeenAlike (x y : AnnotatedForest) : Type 0 where
 pub seen_self : (x : AnnotatedForest) → AreSeenAlike x x
 seen_self x = record { level = refl; first = refl; follow = λ i. refl }
 
--- an operand before others
+-- whether an operand is continued is the same for both
 continued_seen : (level : ℕ) (x y : AnnotatedForest) → AreSeenAlike x y → (ts us : List Token) → Sees ts us → is_continued level x ts ≡ is_continued level y us
 continued_seen level x y a [] [] h = refl
 continued_seen level x y a (t ∷ ts) (u ∷ us) h =
@@ -117,7 +117,7 @@ operand_seen (Some level) x y a ts us h g o = (
   sym (continued_seen level x y a ts us h) ∙ o.2,
 )
 
--- the items of one node
+-- the items of one node look the same if its children's do
 pub sees_node : (j : SyntaxKind) (x y : AnnotatedForest) (ts us : List Token) → Sees (tokens_in x ++ ts) (tokens_in y ++ us)
     → Sees (tokens_in (one_branch j x) ++ ts) (tokens_in (one_branch j y) ++ us)
 sees_node j x y ts us h =

@@ -27,7 +27,7 @@ use Rattle.rnix_proof_reparse.proofs.CarriedReadings.{no_second}
 use Rattle.rnix_proof_reparse.proofs.BracketedNodes.{bracketed, BeginsItself, opened}
 use Rattle.rnix_proof_reparse.proofs.BalancedItems.{is_over, not_over}
 
--- a forest that is read without errors
+-- a forest that is read without errors, between two rests of a row
 record IsRead (p : SyntaxKind) (q q' : Row) (f : AnnotatedForest) : Type 0 where
   depth : ℕ
   prev : ℕ
@@ -40,7 +40,7 @@ clean : {p : SyntaxKind} {d n : ℕ} {q q' : Row} {b f : AnnotatedForest} {us : 
 clean {p} {d} {n} {q} {q'} {b} {f} {us} h z =
     record { depth = d; prev = n; before = b; next = us; reads = subst (λ (e : List Fault). Reads p d n q q' b us f e) z h }
 
--- where one kind of token comes next
+-- if the row requires a token of one kind next, the forest begins with it
 record IsFirstLeaf (p : SyntaxKind) (q q' : Row) (a : SyntaxKind) (f : AnnotatedForest) : Type 0 where
   first : Token
   rest : AnnotatedForest
@@ -67,7 +67,7 @@ first_leaf {p} {q = q} {q' = q'} a (leaf {t = t} {f = f} x o h) z e m r one =
 first_leaf {q' = q'} a (inner {k = k} room hr over i o op h) z e m r one =
     absurd (true_is_not_false (sym (reads_row hr over.0) ∙ ap has_row (one k (reads_viable h (end_viable q' e))) ∙ r))
 
--- where a node comes next
+-- if the row requires a node next, the forest begins with one
 record IsFirstNode (p : SyntaxKind) (q q' : Row) (f : AnnotatedForest) : Type 0 where
   kind : SyntaxKind
   children : AnnotatedForest
@@ -100,7 +100,7 @@ first_node {q' = q'} {b = b} (inner {k = k} {s = s} {c = x} {f = f} {ds = ds} {e
   reads = clean h (none_right (ds ++ repeats k b x) es z);
 }
 
--- items that begin no pattern, whatever follows
+-- the items do not begin a pattern after `{`, whatever follows them
 abbrev BeginNone : List Token → Type 0
 BeginNone ts = (us : List Token) → is_pattern (head_kind (ts ++ us)) (second_kind (ts ++ us)) ≡ false
 
@@ -113,14 +113,14 @@ pattern_dot k = each_kind (λ k. is_pattern (Some k) (Some TOKEN_DOT) ≡ false)
 pattern_assign : (k : SyntaxKind) → is_pattern (Some k) (Some TOKEN_ASSIGN) ≡ false
 pattern_assign k = each_kind (λ k. is_pattern (Some k) (Some TOKEN_ASSIGN) ≡ false) (assumption) k
 
--- what begins with a token that begins no pattern
+-- this holds if the first one does not
 none_first : (t : Token) (ts : List Token) (a : SyntaxKind) → t.kind ≡ a → ((next : Option SyntaxKind) → is_pattern (Some a) next ≡ false) → BeginNone (t ∷ ts)
 none_first t ts a e h us = ap (λ k. is_pattern (Some k) (head_kind (ts ++ us))) e ∙ h (head_kind (ts ++ us))
 
 none_more : (ts us : List Token) → BeginNone ts → BeginNone (ts ++ us)
 none_more ts us h vs = ap (λ z. is_pattern (head_kind z) (second_kind z)) (append_assoc ts us vs) ∙ h (us ++ vs)
 
--- what is after a name in an attribute path: a dot or nothing
+-- after a name in an attribute path there is a `.` or nothing
 dots : {d n : ℕ} {q q' : Row} {b f : AnnotatedForest} {us : List Token} {es : List Fault} → Reads NODE_ATTRPATH d n q q' b us f es → es ≡ []
     → may_end q' ≡ true → ((k : SyntaxKind) → is_viable (after q k) ≡ true → k ≡ TOKEN_DOT)
     → (f ≡ blank) ⊎ ((t : Token) × (g : AnnotatedForest) × (f ≡ token TOKEN_DOT t g) × (t.kind ≡ TOKEN_DOT))
@@ -134,7 +134,7 @@ dots {q' = q'} (leaf {t = t} {f = f} x o h) z e one =
 dots {q' = q'} (inner {k = k} room hr over i o op h) z e one =
     absurd (true_is_not_false (sym (reads_row hr over.0) ∙ ap has_row (one k (reads_viable h (end_viable q' e)))))
 
--- an attribute's name
+-- an attribute is a name, a string or an interpolation
 attr_is : (k : SyntaxKind) → is_attr k ≡ true → (k ≡ NODE_IDENT) ⊎ ((k ≡ NODE_STRING) ⊎ (k ≡ NODE_DYNAMIC))
 attr_is NODE_IDENT h = inl refl
 attr_is NODE_STRING h = inr (inl refl)
@@ -153,7 +153,7 @@ dynamic_none h e =
     let w = first_leaf TOKEN_INTERPOL_START h refl e refl refl (only (λ k. is_viable (after (row NODE_DYNAMIC) k)) TOKEN_INTERPOL_START refl) in
     subst (λ x. BeginNone (tokens_in x)) (sym w.is) (none_first w.first (tokens_in w.rest) TOKEN_INTERPOL_START w.kind (λ next. refl))
 
--- a name is one token
+-- the forest is one token
 record IsOneToken (f : AnnotatedForest) : Type 0 where
   first : Token
   tokens : tokens_in f ≡ first ∷ []
@@ -164,7 +164,7 @@ name_one {s = s} h e =
     let none : w.rest ≡ blank = (past_ends w.reads.reads refl (end_viable s e)).no_trees in
     record { first = w.first; tokens = ap tokens_in w.is ∙ ap (λ x. w.first ∷ tokens_in x) none }
 
--- an attribute path before `=`
+-- an attribute path before `=` does not begin a pattern
 path_none : {d n : ℕ} {s : Row} {b f : AnnotatedForest} {us : List Token} → Reads NODE_ATTRPATH d n (row NODE_ATTRPATH) s b us f [] → may_end s ≡ true
     → (u : Token) (ts : List Token) → u.kind ≡ TOKEN_ASSIGN → BeginNone (tokens_in f ++ (u ∷ ts))
 path_none {s = s} {f = f} h e u ts assign =
@@ -201,7 +201,7 @@ path_none {s = s} {f = f} h e u ts assign =
     attr k y g {v} l r m o (inr (inr n)) =
         none_more (tokens_in y) (tokens_in g ++ (u ∷ ts)) (dynamic_none (subst (λ k. IsRead k (row k) v y) n r).reads m)
 
--- the entries of a set
+-- no entry of a set begins a pattern
 inherit_none : {d n : ℕ} {s : Row} {b f : AnnotatedForest} {us : List Token} → Reads NODE_INHERIT d n (row NODE_INHERIT) s b us f [] → may_end s ≡ true
     → BeginNone (tokens_in f)
 inherit_none h e =
@@ -231,11 +231,11 @@ entry_none : (k : SyntaxKind) (f : AnnotatedForest) {s : Row} → IsRead k (row 
 entry_none k f {s} r e (inl n) = inherit_none (subst (λ k. IsRead k (row k) s f) n r).reads e
 entry_none k f {s} r e (inr n) = binding_none (subst (λ k. IsRead k (row k) s f) n r).reads e
 
--- what is left of the row of a set after its opening brace
+-- the rest of a set's row after its opening brace
 abbrev entries : Row
 entries = after (row NODE_ATTR_SET) TOKEN_L_BRACE
 
--- the items inside a set
+-- the items inside a set do not begin a pattern
 inside_none : (x : AnnotatedForest) (r : SyntaxKind) (u : Token) {d n : ℕ} {q' : Row} {b : AnnotatedForest} {us : List Token} {es : List Fault} (q : Row)
     → q ≡ entries → Reads NODE_ATTR_SET d n q q' b us (x ⊕ one_token r u) es → es ≡ [] → may_end q' ≡ true
     → is_pattern (head_kind (tokens_in x ++ (u ∷ []))) (second_kind (tokens_in x ++ (u ∷ []))) ≡ false
@@ -261,7 +261,7 @@ inside_none (branch j y x) r u {q' = q'} {b = b} q same (inner {ds = ds} {es = e
     none_more (tokens_in y) (tokens_in x)
     (entry_none j y (clean hr (none_remaining ds (repeats j b y) (none_remaining (ds ++ repeats j b y) es z))) over.0 (entry_is j kind)) (u ∷ [])
 
--- the items of a bracketed node begin it
+-- the items of a bracketed node begin this node as an operand
 pub begins_itself : {k l r : SyntaxKind} (w : IsBracketed k l r) (t u : Token) (x : AnnotatedForest) {d n : ℕ} {s : Row} {us : List Token}
     → Reads k d n (row k) s blank us (bracketed l t x r u) [] → may_end s ≡ true → t.kind ≡ l → BeginsItself k l t x r u
 begins_itself list t u x h e kind =

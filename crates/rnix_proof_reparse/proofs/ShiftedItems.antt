@@ -1,4 +1,4 @@
--- The items of a text in which a bracketed node was replaced are alike those of the old text and of the node alone, put together.
+-- The items of a text in which a bracketed node is replaced are like those of the old text around it and those of the new node.
 use Rattle.std.proofs.Common.{◌≡◌, ℕ, ◌+◌, Bool, true, false, List, [], ◌∷◌, ◌++◌, map, length, Option, Some, None, refl, ap, sym, ◌∙◌, subst, arith, nat_eq}
 use Rattle.std.proofs.lemmas.Bool.{and_parts}
 use Rattle.std.proofs.lemmas.Bool.Decides.{nat_tests}
@@ -27,7 +27,7 @@ pub placed_parts : (n : ℕ) (ts us : List Token) → ArePlaced n (ts ++ us) →
 placed_parts n [] us h = (tt, h)
 placed_parts n (t ∷ ts) us h = let w = placed_parts t.end ts us h.2 in ((h.0, h.1, w.0), w.1)
 
--- the same lexemes
+-- tokens with equal lexemes have equal kinds and texts
 first_same : (t u : Token) (ts us : List Token) → map lexeme_of (t ∷ ts) ≡ map lexeme_of (u ∷ us)
     → (t.kind ≡ u.kind) × (t.text ≡ u.text) × (map lexeme_of ts ≡ map lexeme_of us)
 first_same t u ts us h = (ap (λ (l : Lexeme). l.0) (ap heads h), ap (λ (l : Lexeme). l.1) (ap heads h), ap tails h)
@@ -49,7 +49,7 @@ same_touch n m g = by (nat_eq (n + g) n) refl (nat_eq (m + g) m) refl
     by true e false f = grind (arith, nat_tests, e, f)
     by false e true f = grind (arith, nat_tests, e, f)
 
--- tokens at two places are alike, if they have the same distance from what is before them
+-- tokens with equal lexemes from two bytes on are alike, if both are as far from what precedes them
 pub shifted : (prev : Option SyntaxKind) (ts us : List Token) (n m g : ℕ) → ArePlaced (n + g) ts → ArePlaced (m + g) us → map lexeme_of ts ≡ map lexeme_of us
     → AreAlike prev n m (items ts) (items us)
 shifted prev [] [] n m g a b h = tt
@@ -86,7 +86,7 @@ alike_append prev n m (x ∷ xs) (y ∷ ys) us vs h g = (h.0, h.1, h.2, alike_ap
 alike_append prev n m [] (y ∷ ys) us vs h g = absurd h
 alike_append prev n m (x ∷ xs) [] us vs h g = absurd h
 
--- brackets continue no path
+-- no bracket continues a path
 bracket_pieces : {k l r : SyntaxKind} → IsBracketed k l r → (is_piece_start l ≡ false) × (is_piece_start r ≡ false)
 bracket_pieces set = (refl, refl)
 bracket_pieces list = (refl, refl)
@@ -102,14 +102,14 @@ bracket_items string = (refl, refl)
 no_join : {A : Type 0} (prev : Option SyntaxKind) (k : SyntaxKind) → is_piece_start k ≡ false → may_join prev k ≡ true → A
 no_join prev k e h = absurd (true_is_not_false (sym (and_parts (is_in_path prev) (is_piece_start k) h).1 ∙ e))
 
--- an item that continues no path, before others that are alike
+-- alike items stay alike with the same item before them, if this continues no path
 item_alike : (prev : Option SyntaxKind) (n m : ℕ) (t u : Token) (ts us : List Token) → is_trivia t.kind ≡ false → is_piece_start t.kind ≡ false
     → t.kind ≡ u.kind → t.text ≡ u.text → AreAlike (Some t.kind) t.end u.end (items ts) (items us) → AreAlike prev n m (items (t ∷ ts)) (items (u ∷ us))
 item_alike prev n m t u ts us e p k s h =
     subst (λ z. AreAlike prev n m (item_if z t (items ts)) (items (u ∷ us))) (sym e)
     (subst (λ z. AreAlike prev n m (t ∷ items ts) (item_if z u (items us))) (sym (ap is_trivia (sym k) ∙ e)) (k, s, λ j. no_join prev t.kind p j, h))
 
--- tokens of which some have the given lexemes
+-- some tokens split into those with the first lexemes and those with the others
 pub record IsSplit (ts : List Token) (ls ms : List Lexeme) : Type 0 where
   pub first : List Token
   pub rest : List Token
@@ -138,7 +138,7 @@ split (t ∷ ts) (l ∷ ls) ms h =
     tails [] = []
     tails (x ∷ xs) = xs
 
--- a bracketed node of one text between tokens of another, and the tokens of the text that has both
+-- a node of one text, between the tokens of another, has items like those of the text that contains both
 pub node_alike : {k l r : SyntaxKind} (w : IsBracketed k l r) (first inner last : List Token) (t u : Token) → t.kind ≡ l → u.kind ≡ r
     → ArePlaced 0 first → ArePlaced t.end inner → ArePlaced u.end last → (ts : List Token) → ArePlaced 0 ts
     → map lexeme_of ts ≡ map lexeme_of first ++ (lexeme_of t ∷ (map lexeme_of inner ++ (lexeme_of u ∷ map lexeme_of last)))

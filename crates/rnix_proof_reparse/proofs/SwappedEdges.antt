@@ -1,4 +1,4 @@
--- Where each node of a forest begins and ends with items, so it is with other children of a node that begin and end with items.
+-- If each node of a forest begins and ends with items, this still holds when the children of one node are replaced by others that do.
 use Rattle.std.proofs.Common.{List, [], ◌∷◌, ◌++◌}
 use Rattle.rnix_kinds.specs.declared.kinds.SyntaxKind.{SyntaxKind}
 use Rattle.rnix_grammar.specs.AnnotatedForest.{Token, AnnotatedForest, tokens_in}
@@ -40,7 +40,7 @@ pub stops_later : (ts us : List Token) → AreSome us → StopsWithItem us → S
 stops_later [] us a h = h
 stops_later (t ∷ ts) us a h = stops_cons t (ts ++ us) (some_second ts us a) (stops_later ts us a h)
 
--- other children, which begin and end with items
+-- the new children begin and end with items
 pub record HasItemEdges (e : AnnotatedForest) : Type 0 where
   pub starts : StartsWithItem (tokens_in e)
   pub stops : StopsWithItem (tokens_in e)

@@ -1,4 +1,4 @@
--- Trees in which the children of one bracketed node are others: what a reading asks of trees stays.
+-- Trees that differ in the children of one bracketed node: what a reading requires of them is the same.
 use Rattle.std.proofs.Common.{◌≡◌, ℕ, true, List, Option, Some, None, refl, ap, sym, ◌∙◌, if◌then◌else◌, ◌&&◌, ◌||◌}
 use Rattle.rnix_kinds.specs.declared.kinds.SyntaxKind.{SyntaxKind}
 use Rattle.rnix_kinds.specs.declared.kinds.SyntaxKind.TheVariants.{NODE_LAMBDA}
@@ -14,7 +14,7 @@ use Rattle.rnix_grammar.specs.Rules.{Row, ◌·◌, is_first_expected, level_at,
 use Rattle.rnix_proof_lemmas.proofs.EachKind.{each_kind}
 use Rattle.rnix_proof_reparse.specs.Bracketed.{IsBracketed, set, list, paren, string}
 
--- two forests are the same except for the children of one node of a kind
+-- two forests are equal except for the children of one node of the kind
 pub data Swapped (k : SyntaxKind) (c e : AnnotatedForest) : AnnotatedForest → AnnotatedForest → Type 0 where
   here : {f : AnnotatedForest} → Swapped k c e (branch k c f) (branch k e f)
   past_token : {j : SyntaxKind} {t : Token} {f g : AnnotatedForest} → Swapped k c e f g → Swapped k c e (token j t f) (token j t g)
@@ -22,7 +22,7 @@ pub data Swapped (k : SyntaxKind) (c e : AnnotatedForest) : AnnotatedForest → 
   past_fault : {n : Note} {d f g : AnnotatedForest} → Swapped k c e f g → Swapped k c e (fault n d f) (fault n d g)
   inside : {j : SyntaxKind} {d h f : AnnotatedForest} → Swapped k c e d h → Swapped k c e (branch j d f) (branch j h f)
 
--- a bracketed node has one level, whatever its children are, and is no name
+-- the level of a bracketed node does not depend on its children, and it is no name
 level_here : {k l r : SyntaxKind} → IsBracketed k l r → (c e : AnnotatedForest) → level_of k c ≡ level_of k e
 level_here set c e = refl
 level_here list c e = refl
@@ -54,7 +54,7 @@ entry_here list name c e f = refl
 entry_here paren name c e f = refl
 entry_here string name c e f = refl
 
--- the operator after the first tree
+-- the operator after the first tree is the same
 operator_behind : (j : SyntaxKind) (d h f : AnnotatedForest) → operator_in (branch j d f) ≡ operator_in (branch j h f)
 operator_behind j d h blank = refl
 operator_behind j d h (token i t f) = refl
@@ -84,7 +84,7 @@ operator_swapped (past_branch {j = j} {d = d} s) = operator_later j d s
 operator_swapped (past_fault {n = n} {d = d} s) = operator_after n d s
 operator_swapped (inside {j = j} {d = d} {h = h} {f = f} s) = operator_behind j d h f
 
--- the prefix operator
+-- the prefix operator is the same
 prefix_leaf : (j : SyntaxKind) (t : Token) (f g : AnnotatedForest) → prefix_in (token j t f) ≡ prefix_in (token j t g)
 prefix_leaf j t f g = each_kind (λ j. prefix_in (token j t f) ≡ prefix_in (token j t g)) (assumption) j
 
@@ -95,7 +95,7 @@ prefix_swapped (past_branch s) = refl
 prefix_swapped (past_fault s) = refl
 prefix_swapped (inside s) = refl
 
--- a forest begins with the name `or`
+-- whether a forest begins with the name `or` is the same
 or_leaf_swapped : {k : SyntaxKind} {c e f g : AnnotatedForest} → Swapped k c e f g → is_or_leaf f ≡ is_or_leaf g
 or_leaf_swapped here = refl
 or_leaf_swapped (past_token s) = refl
@@ -134,7 +134,7 @@ entry_later : (name : List ℕ) (j : SyntaxKind) (d f g : AnnotatedForest) → h
 entry_later name j d f g i = each_kind (λ j. has_entry name (branch j d f) ≡ has_entry name (branch j d g))
     (assumption (i, ap (λ n. if is_same_name name (entry_name d) then true else n) i)) j
 
--- a bracketed node names nothing
+-- a bracketed node adds no name
 pub repeats_here : {k l r : SyntaxKind} → IsBracketed k l r → (b c e : AnnotatedForest) → repeats k b c ≡ repeats k b e
 repeats_here set b c e = refl
 repeats_here list b c e = refl
@@ -174,7 +174,7 @@ module _ {k l r : SyntaxKind} (w : IsBracketed k l r) {c e : AnnotatedForest} wh
   atom_row_swapped (past_fault s) = refl
   atom_row_swapped (inside s) = refl
 
-  -- the first tree of an operand
+  -- the first tree of an operand is the same
   lambda_inside : {d h : AnnotatedForest} (f : AnnotatedForest) → Swapped k c e d h → first_tree (branch NODE_LAMBDA d f) ≡ first_tree (branch NODE_LAMBDA h f)
   lambda_inside f here = refl
   lambda_inside f (past_token s) = refl
@@ -193,11 +193,11 @@ module _ {k l r : SyntaxKind} (w : IsBracketed k l r) {c e : AnnotatedForest} wh
   first_swapped (past_fault s) = refl
   first_swapped (inside {j = j} {f = f} s) = first_inside j f s (first_swapped s)
 
-  -- what may follow a tree
+  -- what may follow a tree is the same
   pub follows_swapped : (i : SyntaxKind) {f g : AnnotatedForest} → Swapped k c e f g → follows i f ≡ follows i g
   follows_swapped i s = rw (row_level_swapped s, atom_row_swapped s) refl
 
-  -- what stands where its first item is expected, and the level that is asked of an operand
+  -- whether a node's first item is expected, and the level that an operand must have, are the same
   pub first_expected_swapped : (q : Row) (j : SyntaxKind) {d h : AnnotatedForest} → Swapped k c e (one_branch j d) (one_branch j h)
       → is_first_expected q j d ≡ is_first_expected q j h
   first_expected_swapped (Argument · q) j s = or_row_swapped s
@@ -213,7 +213,7 @@ module _ {k l r : SyntaxKind} (w : IsBracketed k l r) {c e : AnnotatedForest} wh
   followed_swapped (Argument · q) (Some i) s h = sym (ap (λ w. (is_fn_arg i || is_or i) && w) (follows_swapped i s)) ∙ h
   followed_swapped q next s h = tt
 
-  -- the entries of a pattern
+  -- the entries of a pattern are the same
   token_swapped : {f g : AnnotatedForest} → Swapped k c e f g → only_token f ≡ only_token g
   token_swapped here = refl
   token_swapped (past_token s) = refl
@@ -245,7 +245,7 @@ module _ {k l r : SyntaxKind} (w : IsBracketed k l r) {c e : AnnotatedForest} wh
   pub repeats_inside : (j : SyntaxKind) (b : AnnotatedForest) {d h : AnnotatedForest} → Swapped k c e d h → repeats j b d ≡ repeats j b h
   repeats_inside j b {d} {h} s = each_kind (λ j. repeats j b d ≡ repeats j b h) (assumption (ap (λ n. repeated_if n b) (name_swapped s))) j
 
--- forests before such forests, and after them
+-- two such forests with the same trees before or after them
 pub swapped_first : {k : SyntaxKind} {c e f g : AnnotatedForest} (x : AnnotatedForest) → Swapped k c e f g → Swapped k c e (f ⊕ x) (g ⊕ x)
 swapped_first x here = here
 swapped_first x (past_token s) = past_token (swapped_first x s)

@@ -1,4 +1,4 @@
--- A text that continues to a bracket: its bytes, its runs and its characters before the bracket are the same, whatever follows the bracket.
+-- The bytes, runs and characters of a text before a bracket do not depend on what follows the bracket.
 use Rattle.std.proofs.Common.{◌≡◌, ℕ, ◌+◌, ◌<◌, ◌≤◌, Bool, true, false, ◌||◌, ◌==◌, List, [], ◌∷◌, ◌++◌, length, get_or, take, drop, IsUtf8, refl}
 use Rattle.std.proofs.Common.{sym, ap, ◌∙◌, subst, inl, inr, arith, cond, append_assoc, length-append, length-drop}
 use Rattle.std.proofs.lemmas.List.{get_or_append_left, drop-append-le, take-append-le, Sums.{prefix_len_passes, take_while-cons}}
@@ -8,15 +8,15 @@ use Rattle.std.specs.{Prelude.codes, List.{prefix_len, take_while, list_any}, Ch
 use Rattle.rnix_kinds.specs.Lexical.Texts.{occurs_at, run_end, space_len, begins_space, char_len}
 use Rattle.rnix_proof_separation.proofs.{Appended.{same_byte, next_byte, run_inside, stands_inside}, KeptPaths.chars_ascii}
 
--- a bracket, a quote, or `$`
+-- the byte begins a bracket: it is a bracket, a quote or `$`
 abbrev pub is_stop : ℕ → Bool
 is_stop b = b == 34 || b == 36 || b == 39 || b == 40 || b == 41 || b == 91 || b == 93 || b == 123 || b == 125
 
--- `$` or `'`, which is half a bracket
+-- the byte is `$` or `'`, the first half of a bracket
 abbrev pub is_half : ℕ → Bool
 is_half b = b == 36 || b == 39
 
--- a bracket begins the text
+-- a text begins with a whole bracket
 pub record BeginsBracket (o : List ℕ) : Type 0 where
   pub some : 0 < length o
   pub stop : is_stop (get_or o 0 0) ≡ true
@@ -38,7 +38,7 @@ take_one_to (x ∷ xs) ys zs b = refl
 stop_ascii : (b : ℕ) → is_stop b ≡ true → (b < 128) × (is_whitespace b ≡ false)
 stop_ascii b e = (grind (arith, nat_tests), grind (arith, nat_tests))
 
--- the characters of a text before a bracket, the bracket's first byte, and the rest
+-- the characters of a text with a bracket in it: those before the bracket, its first byte, and the rest
 chars_bracket : (v o s : List ℕ) → IsUtf8 v → 0 < length o → get_or o 0 0 < 128 → chars ((v ++ o) ++ s) ≡ chars v ++ (get_or o 0 0 ∷ chars (drop 1 o ++ s))
 chars_bracket v [] s utf8 some low = absurd (omega arith)
 chars_bracket v (b ∷ o) s utf8 some low =
@@ -55,7 +55,7 @@ module _ (o : List ℕ) (bracket : BeginsBracket o) where
     pub stop_at : (s : List ℕ) → get_or ((v ++ o) ++ s) (length v) 0 ≡ get_or o 0 0
     stop_at s = get_or_append_left (v ++ o) s 0 (length v) (omega (arith, whole_size, bracket.some)) ∙ next_byte v o
 
-    -- a byte that is no bracket is before it
+    -- a position up to the bracket, whose byte passes a test that the bracket's does not, is before the bracket
     pub before_stop : (p : ℕ → Bool) (s : List ℕ) (i : ℕ) → p (get_or o 0 0) ≡ false → i ≤ length v → p (get_or ((v ++ o) ++ s) i 0) ≡ true → i < length v
     before_stop p s i out h pass =
         elim (cases_lt i (length v)) [
@@ -64,7 +64,7 @@ module _ (o : List ℕ) (bracket : BeginsBracket o) where
               absurd (both_ways _ out (ap p (sym (ap (λ k. get_or ((v ++ o) ++ s) k 0) here ∙ stop_at s)) ∙ pass)))
         ]
 
-    -- a run without brackets ends before the bracket
+    -- a run without the bracket's first byte ends before the bracket
     pub run_le : (p : ℕ → Bool) (s : List ℕ) → p (get_or o 0 0) ≡ false → prefix_len p ((v ++ o) ++ s) ≤ length v
     run_le p s out =
         elim (cases_lt (length v) (prefix_len p ((v ++ o) ++ s))) [
@@ -72,7 +72,7 @@ module _ (o : List ℕ) (bracket : BeginsBracket o) where
           | inr h ↦ h
         ]
 
-    -- a run that ends before the bracket is the same
+    -- a run that ends before the bracket does not depend on what follows the bracket
     pub run_same : (p : ℕ → Bool) (s r : List ℕ) → prefix_len p ((v ++ o) ++ s) ≤ length v → prefix_len p ((v ++ o) ++ r) ≡ prefix_len p ((v ++ o) ++ s)
     run_same p s r h = run_inside p (v ++ o) s r (omega (arith, whole_size, bracket.some))
 
@@ -83,7 +83,7 @@ module _ (o : List ℕ) (bracket : BeginsBracket o) where
     take_same i s r h =
         take-append-le i (v ++ o) s (omega (arith, whole_size)) ∙ sym (take-append-le i (v ++ o) r (omega (arith, whole_size)))
 
-    -- a word of at most two bytes that begins before the bracket
+    -- whether a word of at most two bytes occurs before the bracket does not depend on what follows the bracket
     pub word_same : (w : List ℕ) (i : ℕ) (s r : List ℕ) → length w ≤ 2 → i < length v → occurs_at w i ((v ++ o) ++ s) ≡ occurs_at w i ((v ++ o) ++ r)
     word_same w i s r len h = stands_inside w i (v ++ o) s r (omega (arith, whole_size, bracket.some))
 
@@ -92,7 +92,7 @@ module _ (o : List ℕ) (bracket : BeginsBracket o) where
         let other : (get_or o 0 0 == 36) ≡ false = grind (arith, nat_tests) in
         and_left _ _ (ap (λ b. b == 36) (stop_at s) ∙ other)
 
-    -- `${` before the bracket, or as the bracket
+    -- whether `${` occurs before the bracket, or as the bracket, does not depend on what follows it
     pub dollar_same : (i : ℕ) (s r : List ℕ) → i ≤ length v → occurs_at (codes "${") i ((v ++ o) ++ s) ≡ occurs_at (codes "${") i ((v ++ o) ++ r)
     dollar_same i s r h =
         elim (cases_lt i (length v)) [

@@ -19,13 +19,13 @@ use Rattle.rnix_kinds.specs.Lexical.Numbers.{exponent_digits, exponent, number}
 use Rattle.rnix_kinds.specs.Lexical.Operators.{ellipsis, opener, opening_brace, closing_brace, brace, operators, first_row, operator}
 use Rattle.{rnix_kinds.specs.Lexical.Tokens.{first_that_fits, normal_cut}, rnix_proof_separation.proofs.KeptOperators.word_first}
 
--- a change that `{` makes
+-- a change that `{` makes: none, or one more open brace
 abbrev pub IsBraceChange : Change → Type 0
 IsBraceChange Stay = Unit {0}
 IsBraceChange (Count braces) = Unit {0}
 IsBraceChange change = ⊥
 
--- what a bracket's first byte b, its length n and its change are; nothing is said of other kinds
+-- what the first byte `b`, the length `n` and the change of a bracket of the kind are; other kinds may have any
 abbrev pub IsBracketCut : SyntaxKind → ℕ → ℕ → Change → Type 0
 IsBracketCut TOKEN_STRING_START b n change = ((b == 34 || (b == 39 && nat_lt 1 n)) ≡ true) × (change ≡ Open (Quoted (b == 39)))
 IsBracketCut TOKEN_INTERPOL_START b n change = ((b == 36 && nat_lt 1 n) ≡ true) × (change ≡ Open (Interpolation 0))
@@ -39,7 +39,7 @@ IsBracketCut TOKEN_R_PAREN b n change = (b == 41) ≡ true
 IsBracketCut TOKEN_STRING_END b n change = ⊥
 IsBracketCut kind b n change = Unit {0}
 
--- the first byte of a bracket that is an operator
+-- the byte begins a bracket of the kind that is an operator
 abbrev suits_byte : SyntaxKind → ℕ → Bool
 suits_byte TOKEN_L_BRACK b = b == 91
 suits_byte TOKEN_L_PAREN b = b == 40
@@ -207,7 +207,7 @@ module _ (x : List ℕ) where
   first_suited None rules last here more = more
   first_suited (Some cut) rules last here more = here
 
-  -- a token outside strings and paths
+  -- a token outside strings and paths has this form
   pub normal_suited : (mode : Option Mode) → IsSuited (normal_cut mode x)
   unfolding normal_cut
   normal_suited mode =

@@ -1,4 +1,4 @@
--- An opening bracket is cut alike whatever follows it; what is open after it; and where a closing bracket begins.
+-- The cut of an opening bracket does not depend on what follows it. Which modes are open after it, and where a closing bracket begins.
 use Rattle.std.proofs.Common.{◌≡◌, ◌⊎◌, ℕ, ◌<◌, Bool, true, false, ◌&&◌, ◌||◌, ◌==◌, nat_lt, List, [], ◌∷◌, ◌++◌, length, get_or, take, Option}
 use Rattle.std.proofs.Common.{Some, None, refl, sym, ap, ◌∙◌, subst, inl, inr, arith, cond, length-append, eqb-true}
 use Rattle.std.proofs.lemmas.{List.get_or_append_left, Bool.{and_parts, and_left, cond_both, true≢false, both_ways, or_left, or_from, Decides.nat_tests}}
@@ -21,7 +21,7 @@ use Rattle.rnix_proof_replacement.proofs.{BeforeBrackets.{is_stop, is_half, Begi
 use Rattle.rnix_proof_separation.proofs.KeptStrings.{piece_of}
 use Rattle.rnix_proof_replacement.proofs.BracketForms.{IsBraceChange, IsBracketCut, normal_suited}
 
--- a string begins
+-- the token is a quote that opens a string
 abbrev pub is_quote : SyntaxKind → Bool
 is_quote TOKEN_STRING_START = true
 is_quote kind = false
@@ -30,7 +30,7 @@ opening_solid : (kind : SyntaxKind) → is_opening kind ≡ true → is_error ki
 opening_solid TOKEN_ERROR e = absurd (true≢false (sym e))
 opening_solid kind e = refl
 
--- the first byte of an opening bracket, and its second byte if it has one
+-- an opening bracket begins with a byte that begins brackets, and has a second byte if this is half of one
 opening_stop : (kind : SyntaxKind) (b n : ℕ) (change : Change) → is_opening kind ≡ true → IsBracketCut kind b n change
     → (is_stop b ≡ true) × (is_half b ≡ true → 1 < n)
 opening_stop TOKEN_STRING_START b n change e is = let f = is.0 in (grind (arith, nat_tests), λ h. grind (arith, nat_tests))
@@ -70,7 +70,7 @@ opening_quotes : (kind : SyntaxKind) (b n : ℕ) (change : Change) (modes : List
 opening_quotes TOKEN_STRING_START b n change modes e is = ap (λ c. top (changed c modes)) is.1
 opening_quotes kind b n change modes e is = absurd (true≢false (sym e))
 
--- the first byte of a closing bracket
+-- the byte begins a closing bracket
 abbrev closing_byte : ℕ → Bool
 closing_byte b = b == 34 || b == 39 || b == 41 || b == 93 || b == 125
 
@@ -98,7 +98,7 @@ closing_quotes a b c e f = grind (arith, nat_tests)
 closing_quote : (a b : ℕ) → piece_of false a b 0 ≡ 0 → (a == 36 && b == 123) ≡ false → a ≡ 34
 closing_quote a b e f = grind (arith, nat_tests)
 
--- kinds of paths are no brackets
+-- a path is no bracket
 path_kind : (k : PathStart) (broken : Bool)
     → (is_opening (cond broken TOKEN_ERROR (kind_of_path k)) ≡ false) × (is_closing (cond broken TOKEN_ERROR (kind_of_path k)) ≡ false)
 path_kind k true = (refl, refl)
@@ -114,12 +114,12 @@ segment_unbracket k x =
 path_no_end : (k : PathStart) (x : List ℕ) → is_closing (path_cut k x).kind ≡ false
 path_no_end k x = cond_both (begins (codes "${") x) _ _ (λ (c : Cut). is_closing c.kind ≡ false) (λ e. refl) (λ e. (segment_unbracket k x).1)
 
--- a closing bracket, at which no path continues
+-- a text is a closing bracket, and no path continues with it
 pub record ClosesText (t : List ℕ) : Type 0 where
   pub bracket : BeginsBracket t
   pub ends : (x : List ℕ) → path_goes_on (t ++ x) ≡ false
 
--- an opening bracket
+-- a text is an opening bracket: its cut, and what is open after it, do not depend on what follows
 pub record IsOpened (modes : List Mode) (t : List ℕ) (cut : Cut) : Type 0 where
   pub bracket : BeginsBracket t
   pub again : (r : List ℕ) → cut_at (top modes) (t ++ r) ≡ cut
@@ -162,14 +162,14 @@ module _ (t s : List ℕ) (cut : Cut) (some : 0 < length t) (len : cut.len ≡ l
           sym (normal-opened (top modes) (t ++ r) (get_or t 0 0) (first r) quote)
           ∙ (opener_kept t s some r (ap begins_opener (first s) ∙ quote) (subst (Fits t) (sym here) fits) ∙ here)
 
-  -- `${` in a string or a path
+  -- `${` is a bracket
   dollar_bracket : begins (codes "${") (t ++ s) ≡ true → 1 < length t → BeginsBracket t
   dollar_bracket e two =
       let dollar : get_or t 0 0 ≡ 36 =
       sym (get_or_append_left t s 0 0 some) ∙ eqb-true (get_or (t ++ s) 0 0) 36 (and_parts (get_or (t ++ s) 0 0 == 36) _ e).0 in
       record { some = some; stop = ap is_stop dollar; whole = λ h. two }
 
-  -- an opening bracket there is `${`
+  -- inside a string or a path, an opening bracket is `${`
   abbrev IsDollar : Cut → Type 0
   IsDollar c = is_opening c.kind ≡ true → (c ≡ opened) × (begins (codes "${") (t ++ s) ≡ true)
 
@@ -221,7 +221,7 @@ module _ (t s : List ℕ) (cut : Cut) (some : 0 < length t) (len : cut.len ≡ l
         stop = λ m inside r. absurd (cc);
       })
 
-  -- an opening bracket, whatever is open before it
+  -- each opening token is such a bracket, whatever modes are open
   pub opening_token : (modes : List Mode) → cut_at (top modes) (t ++ s) ≡ cut → is_opening cut.kind ≡ true → IsOpened modes t cut
   unfolding cut_at
   opening_token [] is e = normal_opened [] refl is e
@@ -246,7 +246,7 @@ module _ (t s : List ℕ) (cut : Cut) (some : 0 < length t) (len : cut.len ≡ l
       let found = closing_form cut.kind (get_or t 0 0) (length t) cut.change e (suited mode is) in
       closed_with (get_or t 0 0) (length t) refl refl found.0 (λ h. absurd (both_ways _ found.1 h))
 
-  -- a closing bracket there is the end of the string
+  -- inside a string, a closing bracket is the end of the string
   abbrev IsEnd : Bool → Cut → Type 0
   IsEnd m c =
       ((c.kind ≡ TOKEN_STRING_END) → piece_len m (t ++ s) ≡ 0) → is_closing c.kind ≡ true
@@ -274,7 +274,7 @@ module _ (t s : List ℕ) (cut : Cut) (some : 0 < length t) (len : cut.len ≡ l
       by false size stop other first =
           closed_with 34 1 (first 34 (closing_quote (get_or (t ++ s) 0 0) (get_or (t ++ s) 1 0) stop other)) size refl (λ h. absurd (true≢false (sym h)))
 
-  -- a closing bracket, whatever is open before it
+  -- each closing token is such a bracket, whatever modes are open
   pub closing_token : (modes : List Mode) → cut_at (top modes) (t ++ s) ≡ cut → is_closing cut.kind ≡ true → ClosesText t
   unfolding cut_at
   closing_token [] is e = normal_closed None is e
@@ -283,7 +283,7 @@ module _ (t s : List ℕ) (cut : Cut) (some : 0 < length t) (len : cut.len ≡ l
   closing_token (Path k ∷ modes) is e =
       absurd (both_ways _ (path_no_end k (t ++ s)) (subst (λ (c : Cut). is_closing c.kind ≡ true) (sym is) e))
 
-  -- and no piece begins there in a string
+  -- if a string is open, no piece begins at its closing bracket
   pub closing_stops : (modes : List Mode) (m : Bool) → top modes ≡ Some (Quoted m) → cut_at (top modes) (t ++ s) ≡ cut → is_closing cut.kind ≡ true
       → piece_len m (t ++ s) ≡ 0
   unfolding cut_at

@@ -7,7 +7,7 @@ use Rattle.rnix_kinds.specs.Lexical.Tokens.{Lexeme, cut_at, top, without_ended_p
 use Rattle.rnix_kinds.proofs.LexicalLemmas.{CutLemmas.cut_good, TokensLemmas.{tokens_under-nil, tokens_under-cut, IsPathGoingOn-settled}}
 use Rattle.rnix_proof_replacement.specs.Replaced.{texts}
 
--- from these modes on, the tokens are cut before the rest of the text, and leave the modes after them
+-- under these modes, the text before the rest is cut into these tokens, and these modes are open after them
 pub data AreCut (rest : List ℕ) : List Mode → List Lexeme → List Mode → Type 0 where
   none : (modes : List Mode) → AreCut rest modes [] modes
   next : (modes : List Mode) (t : List ℕ) (cut : Cut) (tokens : List Lexeme) (after : List Mode) → 0 < length t → cut.len ≡ length t
@@ -15,7 +15,7 @@ pub data AreCut (rest : List ℕ) : List Mode → List Lexeme → List Mode → 
       → AreCut rest (changed cut.change (without_ended_paths modes (t ++ (texts tokens ++ rest)))) tokens after
       → AreCut rest modes ((cut.kind, t) ∷ tokens) after
 
--- the token that begins a text, with its cut
+-- a text begins with the token: its cut, and the tokens after it
 pub record IsFirst (modes : List Mode) (t rest : List ℕ) (cut : Cut) (tokens : List Lexeme) : Type 0 where
   pub some : 0 < length t
   pub len : cut.len ≡ length t
@@ -23,7 +23,7 @@ pub record IsFirst (modes : List Mode) (t rest : List ℕ) (cut : Cut) (tokens :
   pub more : tokens_under (changed cut.change (without_ended_paths modes (t ++ rest))) rest ≡ tokens
   pub utf8 : IsUtf8 rest
 
--- a token, and the tokens after it
+-- the tokens of a text are its first one and those after it
 pub first_tokens : (modes : List Mode) (t rest : List ℕ) (cut : Cut) (tokens : List Lexeme) → 0 < length t → cut.len ≡ length t
     → cut_at (top (without_ended_paths modes (t ++ rest))) (t ++ rest) ≡ cut
     → tokens_under (changed cut.change (without_ended_paths modes (t ++ rest))) rest ≡ tokens
@@ -41,7 +41,7 @@ cut_tokens rest _ _ _ (next modes t cut tokens after some len is more) =
     ap (tokens_under modes) (append_assoc t (texts tokens) rest)
     ∙ first_tokens modes t (texts tokens ++ rest) cut (tokens ++ tokens_under after rest) some len is (cut_tokens rest _ tokens after more)
 
--- two lists that begin with a token and are the same
+-- equal lists have equal first elements and equal rests
 same_first : (a b : Lexeme) (xs ys : List Lexeme) → a ∷ xs ≡ b ∷ ys → (a ≡ b) × (xs ≡ ys)
 same_first a b xs ys e = (ap (λ l. first_or a l) e, ap (drop 1) e)
   where
@@ -53,7 +53,7 @@ some_tokens : (modes : List Mode) (text : List ℕ) (token : Lexeme) (tokens : L
 some_tokens modes [] token tokens e = absurd (omega (arith, ap length (sym (tokens_under-nil modes) ∙ e)))
 some_tokens modes (b ∷ text) token tokens e = omega arith
 
--- the first token of a text, with its cut
+-- the first token of a text comes from a cut
 pub first_cut : (modes : List Mode) (t rest : List ℕ) (token : Lexeme) (tokens : List Lexeme) → token.1 ≡ t → IsUtf8 (t ++ rest)
     → tokens_under modes (t ++ rest) ≡ token ∷ tokens
     → (cut : Cut) × (cut.kind ≡ token.0) × IsFirst modes t rest cut tokens
@@ -80,7 +80,7 @@ first_cut modes t rest token tokens is utf8 e =
       },
     )
 
--- the tokens with which a text begins, and what is left
+-- a text begins with the tokens, and others follow
 pub record OperandStarts (rest : List ℕ) (modes : List Mode) (tokens behind : List Lexeme) : Type 0 where
   pub after : List Mode
   pub cuts : AreCut rest modes tokens after

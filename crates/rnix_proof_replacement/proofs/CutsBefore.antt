@@ -1,4 +1,4 @@
--- A token before a bracket is cut alike, whatever follows the bracket.
+-- The cut of a token before a bracket does not depend on what follows the bracket.
 use Rattle.std.proofs.Common.{◌≡◌, ℕ, ◌+◌, ◌<◌, ◌≤◌, Bool, true, false, ◌&&◌, ◌==◌, nat_lt, List, [], ◌∷◌, ◌++◌, length, get_or, take, drop, IsUtf8}
 use Rattle.std.proofs.Common.{Option, Some, None, refl, sym, ap, ◌∙◌, subst, inl, inr, arith, cond, length-append, length-drop}
 use Rattle.std.proofs.lemmas.Bool.{cases_lt, cases_Bool, cond_both, and_parts, and_left, and_right, ne_eqb, Decides.nat_tests}
@@ -17,7 +17,7 @@ use Rattle.rnix_proof_replacement.proofs.BeforeBrackets.{is_stop, BeginsBracket,
 use Rattle.rnix_proof_replacement.proofs.BeforeBrackets.{space_len_same, char_len_same}
 use Rattle.rnix_proof_replacement.proofs.{NumbersBefore.number_before, PathsBefore.{slash_before, home_before, relative_before, search_before}}
 
--- a rule's cut is the same if it has at most n bytes
+-- if the cut of a rule has at most `n` bytes, the other rule has the same cut; without a cut, neither has one
 abbrev Agrees : ℕ → Option Cut → Option Cut → Type 0
 Agrees n None other = other ≡ None
 Agrees n (Some cut) other = cut.len ≤ n → other ≡ Some cut
@@ -51,7 +51,7 @@ no_colon b e = grind (arith, nat_tests)
 no_point : (b : ℕ) → is_stop b ≡ true → (b == 46) ≡ false
 no_point b e = grind (arith, nat_tests)
 
--- a letter, and a byte of a URI after `:`
+-- a letter, and after a `:` a byte of a URI
 abbrev uri_begins : ℕ → ℕ → ℕ → Bool
 uri_begins a b c = is_ascii_alphabetic a && b == 58 && is_uri c
 
@@ -144,7 +144,7 @@ module _ (o : List ℕ) (bracket : BeginsBracket o) (v : List ℕ) (some : 0 < l
   brace_before : (top : Option Mode) → brace top ((v ++ o) ++ r) ≡ brace top ((v ++ o) ++ s)
   brace_before top = rw (byte 0 (omega arith)) refl
 
-  -- a token outside strings and paths
+  -- a token outside strings and paths that ends before the bracket does not depend on what follows
   pub normal_before : (top : Option Mode) (cut : Cut) → IsUtf8 v → cut.len ≤ length v → normal_cut top ((v ++ o) ++ s) ≡ cut
       → normal_cut top ((v ++ o) ++ r) ≡ cut
   unfolding normal_cut

@@ -1,4 +1,4 @@
--- Tokens that close nothing but what they open are cut alike over any modes.
+-- Tokens that close nothing but what they open are the same whatever modes are open below.
 use Rattle.std.proofs.Common.{◌≡◌, ℕ, zero, suc, ◌+◌, Bool, true, false, not, ◌==◌, nat_lt, List, [], ◌∷◌, ◌++◌, length, get_or, take, refl, sym, ap}
 use Rattle.std.proofs.Common.{◌∙◌, Option, Some, None, subst, arith, cond, eqb-true, add-zero}
 use Rattle.std.proofs.lemmas.Bool.{cond_both, and_parts, not-true, true≢false}
@@ -15,13 +15,13 @@ use Rattle.rnix_proof_replacement.specs.Replaced.{opens_level, closes_level, one
 use Rattle.rnix_proof_replacement.proofs.Onward.{is_neutral, IsOnward, if_kind, path_neutral, normal_onward, normal_free}
 use Rattle.rnix_proof_replacement.proofs.CutTokens.{AreCut, none, next}
 
--- the modes with more open braces on top
+-- the modes with `d` more open braces on top
 abbrev pub raised : ℕ → List Mode → List Mode
 raised d [] = []
 raised d (Interpolation n ∷ modes) = Interpolation (n + d) ∷ modes
 raised d (mode ∷ modes) = mode ∷ modes
 
--- what is open over p in one stack is open over q in the other, and this is so much
+-- the same modes are open over `p` in one stack and over `q` in the other, `d` of them in all
 pub data AreOver (p q : List Mode) : List Mode → List Mode → ℕ → Type 0 where
   normal : (d : ℕ) → is_inside (top p) ≡ false → is_inside (top q) ≡ false → AreOver p q (raised d p) (raised d q) d
   string : (m : Bool) → top p ≡ Some (Quoted m) → top q ≡ Some (Quoted m) → AreOver p q p q 0
@@ -48,7 +48,7 @@ string_settled m (Quoted l ∷ p) x e = refl
 string_settled m (Path k ∷ p) x e = absurd (cc)
 
 module _ (p q : List Mode) where
-  -- paths end in both
+  -- when a path ends, it ends in both stacks
   settled_over : (x : List ℕ) (a b : List Mode) (d : ℕ) → AreOver p q a b d → AreOver p q (without_ended_paths a x) (without_ended_paths b x) d
   settled_over x _ _ _ (normal d e f) =
       subst (λ a. AreOver p q a (without_ended_paths (raised d q) x) d) (sym (normal_settled (raised d p) x (raised_inside d p e)))
@@ -64,7 +64,7 @@ module _ (p q : List Mode) where
         | false ↦ settled_over x a b d over
       ]
 
-  -- nothing is open over them
+  -- if nothing is open over them, the stacks are `p` and `q`
   pub over_end : (x : List ℕ) (a b : List Mode) (d : ℕ) → AreOver p q a b d → d ≡ 0 → path_goes_on x ≡ false
       → (without_ended_paths a x ≡ p) × (without_ended_paths b x ≡ q)
   over_end x _ _ _ (normal d e f) ended ends =
@@ -77,7 +77,7 @@ module _ (p q : List Mode) where
       let more = over_end x a b d over ended ends in
       (rw ends more.0, rw ends more.1)
 
-  -- a token and the tokens after it, over the other modes
+  -- a token is the same over the other modes, and after it so are the tokens that follow
   record Follows (x : List ℕ) (a b : List Mode) (cut : Cut) (tokens : List Lexeme) : Type 0 where
     other : Cut
     is : cut_at (top b) x ≡ other
@@ -87,7 +87,7 @@ module _ (p q : List Mode) where
     over : AreOver p q (changed cut.change a) (changed other.change b) depth
     balanced : are_balanced tokens depth ≡ true
 
-  -- from the depth before a token and the tokens after it
+  -- the tokens from this one on are balanced at a depth
   IsBalancedAt : SyntaxKind → List Lexeme → ℕ → Type 0
   IsBalancedAt kind tokens d =
       cond (opens_level kind) (are_balanced tokens (suc d)) (cond (closes_level kind) (one_less d (are_balanced tokens)) (are_balanced tokens d)) ≡ true
@@ -157,7 +157,7 @@ module _ (p q : List Mode) where
       → IsOnward cut.change cut.kind → IsBalancedAt cut.kind tokens d → cut_at (top b) x ≡ cut → Follows x a b cut tokens
   onward_cut x a b d cut tokens over on balanced is = onward x a b d cut.kind cut.len cut.change tokens over on balanced is
 
-  -- what a token in a string or a path does
+  -- what a token inside a string does: it closes nothing, opens an interpolation, or ends the string
   string_cases : (m : Bool) (x : List ℕ) (P : Cut → Type 0) → ((cut : Cut) → string_cut m x ≡ cut → IsOnward cut.change cut.kind → P cut)
       → (string_cut m x ≡ closed m → P (closed m)) → P (string_cut m x)
   string_cases m x P on ends =
@@ -174,7 +174,7 @@ module _ (p q : List Mode) where
       (λ e. cond_both (occurs_at (codes "${") n x) _ _ (λ (c : Cut). path_cut k x ≡ c → P c) (λ f is. on _ is (path_neutral k))
       (λ f is. ends _ _ (if_kind (is_broken (take n x)) TOKEN_ERROR (kind_of_path k) refl (path_neutral k)) is)) refl
 
-  -- a brace over a base
+  -- a brace over a base: it opens or closes a level there
   record IsBrace (kind : SyntaxKind) (low base : List Mode) (after : ℕ) (cut : Cut) : Type 0 where
     named : cut.kind ≡ kind
     one : cut.len ≡ 1
@@ -306,7 +306,7 @@ module _ (p q : List Mode) where
           balanced = subst (λ k. are_balanced tokens k ≡ true) less h;
         }) balanced
 
-  -- a token over the other modes
+  -- each token is the same over the other modes
   step : (x : List ℕ) (a b : List Mode) (d : ℕ) → AreOver p q a b d → (cut : Cut) (tokens : List Lexeme) → cut_at (top a) x ≡ cut
       → IsBalancedAt cut.kind tokens d → Follows x a b cut tokens
   unfolding IsBalancedAt cut_at
@@ -346,7 +346,7 @@ module _ (p q : List Mode) where
         balanced = neutral_balanced kind tokens d on h;
       })) balanced
 
-  -- the tokens over the other modes
+  -- all tokens are the same over the other modes
   pub record AreCutOver (rest : List ℕ) (after b : List Mode) (tokens : List Lexeme) : Type 0 where
     pub end : List Mode
     pub cuts : AreCut rest b tokens end

@@ -1,4 +1,4 @@
--- The tokens before a bracket are cut alike, whatever follows the bracket.
+-- The tokens before a bracket do not depend on what follows the bracket.
 use Rattle.std.proofs.Common.{◌≡◌, ◌⊎◌, ℕ, ◌<◌, Bool, true, List, [], ◌∷◌, ◌++◌, length, get_or, take, drop, IsUtf8, Option, Some, None, refl}
 use Rattle.std.proofs.Common.{sym, ap, ◌∙◌, subst, inl, inr, arith, cond, append_assoc, length-append}
 use Rattle.std.proofs.lemmas.{List.{take_at, drop_at}, Str.{IsUtf8-drop, IsUtf8-take, IsCharBoundary-before_ascii}, Bool.Decides.nat_tests}
@@ -15,7 +15,7 @@ use Rattle.rnix_proof_replacement.proofs.CutTokens.{AreCut, none, next}
 stop_low : (b : ℕ) → is_stop b ≡ true → b < 128
 stop_low b e = grind (arith, nat_tests)
 
--- the same paths end where paths continue alike
+-- if two texts continue paths alike, the same paths have ended
 pub settled_alike : (modes : List Mode) (x y : List ℕ) → path_goes_on y ≡ path_goes_on x → without_ended_paths modes y ≡ without_ended_paths modes x
 settled_alike [] x y e = refl
 settled_alike (Interpolation n ∷ modes) x y e = refl
@@ -24,14 +24,14 @@ settled_alike (Path k ∷ modes) x y e =
     ap (λ c. cond c (Path k ∷ modes) (without_ended_paths modes y)) e
     ∙ ap (λ l. cond (path_goes_on x) (Path k ∷ modes) l) (settled_alike modes x y e)
 
--- no tokens, or some text
+-- there are no tokens, or some text
 tokens_or_none : (rest : List ℕ) (modes : List Mode) (tokens : List Lexeme) (after : List Mode) → AreCut rest modes tokens after
     → ((texts tokens ≡ []) × (modes ≡ after)) ⊎ (0 < length (texts tokens))
 tokens_or_none rest _ _ _ (none modes) = inl (refl, refl)
 tokens_or_none rest _ _ _ (next modes t cut tokens after some len is more) = inr (omega (arith, length-append t (texts tokens)))
 
 module _ (o : List ℕ) (bracket : BeginsBracket o) (s r : List ℕ) where
-  -- an open string does not continue with a piece there
+  -- an open string does not continue with a piece at the bracket
   abbrev pub StopsAlike : List Mode → Type 0
   StopsAlike after = (m : Bool) → top after ≡ Some (Quoted m) → piece_len m (o ++ s) ≡ 0 → piece_len m (o ++ r) ≡ 0
 
@@ -65,7 +65,7 @@ module _ (o : List ℕ) (bracket : BeginsBracket o) (s r : List ℕ) where
         more = omega (arith, length-append q (o ++ r), length-append o r, bracket.some);
       }
 
-  -- no piece follows content
+  -- no piece follows the content of a string
   stops_alike : (m : Bool) (cut : Cut) (modes : List Mode) (tokens : List Lexeme) (after : List Mode) → AreCut (o ++ s) (changed cut.change modes) tokens after
       → StopsAlike after → top modes ≡ Some (Quoted m) → cut.change ≡ Stay → piece_len m (texts tokens ++ (o ++ s)) ≡ 0
       → piece_len m (texts tokens ++ (o ++ r)) ≡ 0
@@ -95,7 +95,7 @@ module _ (o : List ℕ) (bracket : BeginsBracket o) (s r : List ℕ) where
       ap (cut_at (Some (Path k))) (sym (spread t q r))
       ∙ (path_before o bracket (t ++ q) (some_before t q some) s r k ∙ (ap (cut_at (Some (Path k))) (spread t q s) ∙ is))
 
-  -- the tokens are cut again
+  -- the tokens before the bracket are the same before another text
   pub kept : (modes : List Mode) (tokens : List Lexeme) (after : List Mode) → AreCut (o ++ s) modes tokens after → IsUtf8 (texts tokens ++ (o ++ s))
       → StopsAlike after → AreCut (o ++ r) modes tokens after
   kept _ _ _ (none modes) utf8 stops = none modes

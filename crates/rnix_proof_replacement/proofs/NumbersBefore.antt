@@ -1,4 +1,4 @@
--- A number before a bracket is the same, whatever follows the bracket.
+-- A number before a bracket does not depend on what follows the bracket.
 use Rattle.std.proofs.Common.{◌≡◌, ℕ, ◌+◌, ◌<◌, ◌≤◌, Bool, true, false, ◌==◌, List, ◌++◌, length, get_or, refl}
 use Rattle.std.proofs.Common.{ap, ◌∙◌, arith, cond}
 use Rattle.std.proofs.lemmas.Bool.{cond_both, and_parts, Decides.nat_tests}
@@ -8,7 +8,7 @@ use Rattle.rnix_kinds.specs.Lexical.{Texts.{run_end}, Plain.plain, Numbers.{expo
 use Rattle.rnix_proof_separation.proofs.KeptNumbers.{is_mark, is_sign, is_point}
 use Rattle.rnix_proof_replacement.proofs.BeforeBrackets.{is_stop, BeginsBracket, byte_same, before_stop, end_le, end_same}
 
--- a point
+-- the byte is a point
 abbrev is_dot : ℕ → Bool
 is_dot b = b == 46
 
@@ -66,6 +66,6 @@ module _ (o : List ℕ) (bracket : BeginsBracket o) (v : List ℕ) (some : 0 < l
       ap (λ k. digits_to k ((v ++ o) ++ r)) (digit_end 0 (omega arith))
       ∙ digits_to_same (run_end is_ascii_digit 0 ((v ++ o) ++ s)) (digit_le 0 (omega arith))
 
-  -- a number, or none
+  -- a number, if there is one, does not depend on it
   pub number_before : number ((v ++ o) ++ r) ≡ number ((v ++ o) ++ s)
   number_before = rw (whole_same, fraction_same 1 (omega arith), byte 0 (omega arith), byte 1 (omega arith)) refl

@@ -1,4 +1,4 @@
--- A token that is no brace, outside strings and paths: it closes nothing, whatever modes are open.
+-- A token outside strings and paths that is no brace closes nothing, and is the same whatever modes are open.
 use Rattle.std.proofs.Common.{◌≡◌, ℕ, zero, suc, ◌+◌, Bool, true, false, not, ◌&&◌, ◌||◌, ◌==◌, nat_lt, List, [], ◌∷◌, length, get_or, take, drop, refl, sym}
 use Rattle.std.proofs.Common.{Option, Some, None, subst, cond}
 use Rattle.std.proofs.lemmas.Bool.{and_parts}
@@ -17,11 +17,11 @@ use Rattle.rnix_kinds.specs.Lexical.{Numbers.{exponent_digits, exponent, number}
 use Rattle.rnix_kinds.specs.Lexical.Tokens.{first_that_fits, normal_cut}
 use Rattle.rnix_proof_replacement.specs.Replaced.{opens_level, closes_level}
 
--- a token that opens no mode and closes none
+-- the token neither opens a mode nor closes one
 abbrev pub is_neutral : SyntaxKind → Bool
 is_neutral kind = not (opens_level kind) && not (closes_level kind)
 
--- a token that leaves the modes alone, begins a path, or opens a string or an interpolation
+-- the token leaves the modes alone, begins a path, or opens a string or an interpolation
 abbrev pub IsOnward : Change → SyntaxKind → Type 0
 IsOnward Stay kind = is_neutral kind ≡ true
 IsOnward (Open (Path start)) kind = is_neutral kind ≡ true
@@ -138,7 +138,7 @@ first_onward : (rule : Option Cut) (rules : List (Option Cut)) (last : Cut) → 
 first_onward None rules last here more = more
 first_onward (Some cut) rules last here more = here
 
--- what begins with no brace is cut alike under all modes, and closes nothing
+-- the cut of a text that does not begin with a brace is such a token, and is the same under all modes
 pub normal_onward : (mode : Option Mode) (x : List ℕ) → (get_or x 0 0 == 123) ≡ false → (get_or x 0 0 == 125) ≡ false → IsOnwardCut (normal_cut mode x)
 unfolding normal_cut
 normal_onward mode x left right =

@@ -1,4 +1,4 @@
--- A path before a bracket is the same, whatever follows the bracket.
+-- A path before a bracket does not depend on what follows the bracket.
 use Rattle.std.proofs.Common.{◌≡◌, ℕ, ◌+◌, ◌<◌, ◌≤◌, Bool, true, false, ◌&&◌, ◌==◌, nat_lt, List, ◌++◌, length, get_or, take, drop, IsUtf8, Some}
 use Rattle.std.proofs.Common.{None, refl, sym, ap, ◌∙◌, subst, inl, inr, arith, cond, eqb-true, length-append}
 use Rattle.std.proofs.lemmas.Bool.{cases_Bool, and_left, lt-ltb, ne_eqb, Decides.nat_tests}
@@ -60,7 +60,7 @@ module _ (o : List ℕ) (bracket : BeginsBracket o) (v : List ℕ) (some : 0 < l
         byte 1 (omega arith),
       ) refl
 
-  -- the text after the first byte, if this is of ASCII
+  -- a text after an ASCII byte is UTF-8
   rest_utf8 : (i : ℕ) → IsUtf8 v → i < length v → get_or ((v ++ o) ++ s) i 0 < 128 → IsUtf8 (drop (i + 1) v)
   rest_utf8 i utf8 h low =
       let here : get_or ((v ++ o) ++ s) i 0 ≡ get_or v i 0 =

@@ -1,4 +1,4 @@
--- Brackets that may be replaced, and what may not be inside them.
+-- Brackets that may be replaced, and tokens that may not be between them.
 use Rattle.std.{proofs.{lemmas.Bool.eqb-false, Common.{◌≡◌, ℕ, false, List, [], ◌∷◌, ◌++◌, refl, ap, length}}, specs.{Prelude.codes, Str.chars}}
 use Rattle.rnix_kinds.specs.declared.kinds.SyntaxKind.TheVariants.{TOKEN_ASSIGN, TOKEN_COMMENT, TOKEN_IDENT, TOKEN_INTERPOL_END, TOKEN_INTERPOL_START}
 use Rattle.rnix_kinds.specs.declared.kinds.SyntaxKind.TheVariants.{TOKEN_L_BRACE, TOKEN_L_BRACK, TOKEN_L_PAREN, TOKEN_R_BRACE, TOKEN_R_BRACK, TOKEN_SEMICOLON}
@@ -38,14 +38,14 @@ below = refl
 pub left_over : are_balanced ((TOKEN_L_BRACE, codes "{") ∷ []) 0 ≡ false
 left_over = refl
 
--- the law for whole new brackets, if nothing were said of the tokens between them
+-- the law without its condition on the tokens between the new brackets
 abbrev ReplacesAlways : Type 0
 ReplacesAlways =
     (before old new after : List ℕ) (left right : Lexeme) (inner others first last : List Lexeme)
     → AreBrackets before old after left right inner first last → tokens_of new ≡ left ∷ (others ++ (right ∷ []))
     → tokens_of (before ++ (new ++ after)) ≡ first ++ (left ∷ (others ++ (right ∷ last)))
 
--- `"${[]}"`, where `[}]` for `[]` would end the interpolation
+-- it does not hold of `"${[]}"`, where `[}]` in place of `[]` would end the interpolation
 pub unlimited : ReplacesAlways → ⊥
 unfolding tokens_behind cut_at normal_cut space_len chars begins_space content_from encode
 unlimited claim =

@@ -1,4 +1,4 @@
--- The tokens around brackets are the same when what is inside them is replaced.
+-- The tokens around brackets stay the same when what is between the brackets is replaced.
 use Rattle.std.proofs.Common.{◌≡◌, ℕ, ◌<◌, Bool, true, ◌||◌, ◌==◌, List, [], ◌∷◌, ◌++◌, length, get_or, IsUtf8, Some, refl}
 use Rattle.std.proofs.Common.{sym, ap, ◌∙◌, subst, inl, inr, arith, append_assoc}
 use Rattle.std.proofs.lemmas.{List.append-nil, List.Concat.flat_map-append, Str.IsUtf8-append, Bool.cases_Bool}
@@ -15,7 +15,7 @@ use Rattle.rnix_proof_replacement.proofs.Depths.{AreOver, normal, string, raised
 use Rattle.rnix_proof_replacement.proofs.KeptTokens.{settled_alike, kept}
 use Rattle.rnix_proof_replacement.proofs.BracketTokens.{is_quote, IsOpened, opening_token, ClosesText, closing_token, closing_stops}
 
--- a path continues alike at a bracket
+-- whether a path continues at a bracket does not depend on what follows the bracket
 bracket_goes_on : (o : List ℕ) → BeginsBracket o → (s r : List ℕ) → path_goes_on (o ++ r) ≡ path_goes_on (o ++ s)
 bracket_goes_on o bracket s r =
     ap (λ d. d || is_path (get_or (o ++ r) 0 0)) (dollar_same o bracket [] 0 r s (omega arith))
@@ -23,7 +23,7 @@ bracket_goes_on o bracket s r =
 
 module _ (t : List ℕ) (modes others : List Mode) (cut other : Cut) (first : IsOpened modes t cut) (second : IsOpened others t other)
     (same : cut.kind ≡ other.kind) where
-  -- what an opening bracket opens is alike under all modes
+  -- the same modes are open over both bases after an opening bracket
   bases : AreOver (changed cut.change modes) (changed other.change others) (changed cut.change modes) (changed other.change others) 0
   bases =
       let p = changed cut.change modes in
@@ -37,7 +37,7 @@ module _ (t : List ℕ) (modes others : List Mode) (cut other : Cut) (first : Is
 same_test : (test : SyntaxKind → Bool) (k l : SyntaxKind) → k ≡ l → test l ≡ true → test k ≡ true
 same_test test k l e pass = ap test e ∙ pass
 
--- what is balanced leaves the modes as they were
+-- balanced tokens leave the modes as they were
 stays_balanced : (base : List Mode) (c w : List ℕ) (tokens : List Lexeme) (after : List Mode) → ClosesText c → AreCut (c ++ w) base tokens after
     → AreOver base base base base 0 → are_balanced tokens 0 ≡ true → without_ended_paths after (c ++ w) ≡ base
 stays_balanced base c w tokens after closes cuts over balanced =
@@ -47,7 +47,7 @@ stays_balanced base c w tokens after closes cuts over balanced =
 string_stays : (m : Bool) (modes base : List Mode) (x : List ℕ) → without_ended_paths modes x ≡ base → top modes ≡ Some (Quoted m) → top base ≡ Some (Quoted m)
 string_stays m modes base x settled within = ap top (sym settled ∙ string_settled m modes x within) ∙ within
 
--- brackets and the balanced tokens between them, with their cuts
+-- the cuts of brackets and of the balanced tokens between them
 record AreBracketCuts (modes : List Mode) (left right : Lexeme) (inner : List Lexeme) (rest : List ℕ) (last : List Lexeme) : Type 0 where
   cut : Cut
   kind : cut.kind ≡ left.0
@@ -62,7 +62,7 @@ record AreBracketCuts (modes : List Mode) (left right : Lexeme) (inner : List Le
   utf8 : IsUtf8 (texts inner ++ (right.1 ++ rest))
 
 module _ (left right : Lexeme) (opening : is_opening left.0 ≡ true) (closing : is_closing right.0 ≡ true) where
-  -- brackets at the beginning of a text
+  -- brackets at the beginning of a text have such cuts
   brackets_cut : (modes : List Mode) (inner : List Lexeme) (rest : List ℕ) (last : List Lexeme)
       → IsUtf8 (left.1 ++ (texts inner ++ (right.1 ++ rest)))
       → tokens_under modes (left.1 ++ (texts inner ++ (right.1 ++ rest))) ≡ left ∷ (inner ++ (right ∷ last))
@@ -94,7 +94,7 @@ module _ (left right : Lexeme) (opening : is_opening left.0 ≡ true) (closing :
 
   module _ (modes low : List Mode) (inner others last back : List Lexeme) (rest end : List ℕ) (old : AreBracketCuts modes left right inner rest last)
       (new : AreBracketCuts low left right others end back) (before : are_balanced inner 0 ≡ true) (now : are_balanced others 0 ≡ true) where
-    -- the tokens between brackets of another text, in place of the old ones
+    -- between the brackets, the tokens of the other brackets' text are the same
     between : tokens_under (changed old.cut.change (without_ended_paths modes (left.1 ++ (texts inner ++ (right.1 ++ rest)))))
         (texts others ++ (right.1 ++ rest))
         ≡ others ++ (right ∷ last)
@@ -115,7 +115,7 @@ module _ (left right : Lexeme) (opening : is_opening left.0 ≡ true) (closing :
         ∙ ap (λ l. others ++ l) (sym (tokens_under-settled found.end (c ++ rest)) ∙ (ap (λ m. tokens_under m (c ++ rest)) (ends rest ∙ sym settled)
         ∙ (tokens_under-settled old.after (c ++ rest) ∙ old.more)))
 
-    -- the brackets with other tokens between them
+    -- brackets with other tokens between them have these tokens, and those after them
     brackets_again : tokens_under modes (left.1 ++ (texts others ++ (right.1 ++ rest))) ≡ left ∷ (others ++ (right ∷ last))
     brackets_again =
         let s = texts inner ++ (right.1 ++ rest) in
@@ -124,7 +124,7 @@ module _ (left right : Lexeme) (opening : is_opening left.0 ≡ true) (closing :
         first_tokens modes left.1 r old.cut (others ++ (right ∷ last)) old.some old.len (ap (λ m. cut_at (top m) (left.1 ++ r)) same ∙ old.opened.again r)
         (ap (λ m. tokens_under (changed old.cut.change m) r) same ∙ between) ∙ ap (λ k. (k, left.1) ∷ (others ++ (right ∷ last))) old.kind
 
-  -- the tokens of the new text, from those of the old text and those of the text from which the new brackets are
+  -- the tokens of the new text, from those of the old text and those of the text of the new brackets
   replaced_tokens : (inner first last others front back : List Lexeme) (rest end : List ℕ) → are_balanced inner 0 ≡ true → are_balanced others 0 ≡ true
       → IsUtf8 (texts first ++ (left.1 ++ (texts inner ++ (right.1 ++ rest))))
       → tokens_of (texts first ++ (left.1 ++ (texts inner ++ (right.1 ++ rest)))) ≡ first ++ (left ∷ (inner ++ (right ∷ last)))
@@ -143,7 +143,7 @@ module _ (left right : Lexeme) (opening : is_opening left.0 ≡ true) (closing :
       cut_tokens (left.1 ++ r) [] first begun.after kept_first
       ∙ ap (λ l. first ++ l) (brackets_again begun.after source.after inner others last back rest end old new before now)
 
--- brackets, and what follows them
+-- the text of brackets, with the text after them
 bracket_text : (o i c w : List ℕ) → (o ++ (i ++ (c ++ []))) ++ w ≡ o ++ (i ++ (c ++ w))
 bracket_text o i c w =
     append_assoc o (i ++ (c ++ [])) w
@@ -152,7 +152,7 @@ bracket_text o i c w =
 texts_bracketed : (left right : Lexeme) (inner : List Lexeme) → texts (left ∷ (inner ++ (right ∷ []))) ≡ left.1 ++ (texts inner ++ (right.1 ++ []))
 texts_bracketed left right inner = ap (λ x. left.1 ++ x) (flat_map-append text_of inner (right ∷ []))
 
--- a text with brackets in it
+-- a text that contains brackets
 text_is : (before part after : List ℕ) (left right : Lexeme) (inner first : List Lexeme) → texts first ≡ before
     → texts (left ∷ (inner ++ (right ∷ []))) ≡ part
     → before ++ (part ++ after) ≡ texts first ++ (left.1 ++ (texts inner ++ (right.1 ++ after)))
@@ -163,7 +163,7 @@ text_is before part after left right inner first before_is extent =
 whole_utf8 : (before part after : List ℕ) → IsUtf8 before → IsUtf8 part → IsUtf8 after → IsUtf8 (before ++ (part ++ after))
 whole_utf8 before part after first middle last = IsUtf8-append before (part ++ after) first (IsUtf8-append part after middle last)
 
--- the law
+-- the law `replacement`
 pub may_replace : (before old after start new end : List ℕ) → IsUtf8 (before ++ (old ++ after)) → IsUtf8 (start ++ (new ++ end))
     → MayReplace before old after start new end
 may_replace before old after start new end old_utf8 new_utf8 left right inner first last others front back was now =
@@ -181,7 +181,7 @@ may_replace before old after start new end old_utf8 new_utf8 left right inner fi
       balanced = now.balanced;
     }
 
--- of six texts
+-- the law for texts in three parts each
 pub parts_replaced : (before old after start new end : List ℕ) → IsUtf8 before → IsUtf8 old → IsUtf8 after → IsUtf8 start → IsUtf8 new → IsUtf8 end
     → MayReplace before old after start new end
 parts_replaced before old after start new end a b c d e f =

@@ -1,4 +1,4 @@
--- A token inside a string is cut alike before texts that begin alike.
+-- A token inside a string is the same before two texts that begin with the same byte.
 use Rattle.std.proofs.Common.{◌≡◌, ℕ, ◌<◌, Bool, true, false, ◌==◌, nat_lt, List, ◌++◌, length, get_or, drop, refl}
 use Rattle.std.proofs.Common.{sym, ap, ◌∙◌, subst, inl, inr, arith, cond, length-append, eqb-true}
 use Rattle.std.proofs.lemmas.{List.drop_at, Bool.{cases_lt, cases_Bool, cond_both, eqb-false, ne_eqb, lt-ltb, ltb-false, Decides.nat_tests}}
@@ -13,12 +13,12 @@ use Rattle.rnix_proof_replacement.proofs.BeforeBrackets.{is_half, BeginsBracket,
 piece_at : (m : Bool) (x : List ℕ) → piece_len m x ≡ piece_of m (get_or x 0 0) (get_or x 1 0) (get_or x 2 0)
 piece_at m x = refl
 
--- the third byte matters after `''` alone
+-- the third byte of a piece matters only after `''`
 third_free : (m : Bool) (a b c d : ℕ) → is_half b ≡ false → piece_of m a b c ≡ piece_of m a b d
 third_free true a b c d e = let other : (b == 39) ≡ false = grind (arith, nat_tests) in rw other (grind (arith, nat_tests))
 third_free false a b c d e = refl
 
--- a piece before a bracket is the same, whatever follows the bracket
+-- a piece before a bracket does not depend on what follows the bracket
 pub piece_before : (o : List ℕ) → BeginsBracket o → (v : List ℕ) → 0 < length v → (m : Bool) (s r : List ℕ)
     → piece_len m ((v ++ o) ++ r) ≡ piece_len m ((v ++ o) ++ s)
 piece_before o bracket v some m s r =
@@ -40,7 +40,7 @@ piece_before o bracket v some m s r =
           ]
         ]
 
--- what follows a token in a string begins alike
+-- both texts after a token in a string begin with the same byte
 pub record GoOnAlike (s r : List ℕ) : Type 0 where
   pub first : get_or r 0 0 ≡ get_or s 0 0
   pub some : 0 < length s
@@ -59,7 +59,7 @@ module _ (m : Bool) (t s r : List ℕ) (some : 0 < length t) (alike : GoOnAlike 
       if_false (content_len m (t ++ r) == length (t ++ r)) _ _ _ (ne_eqb _ _ (λ e. omega (arith, alike.more)))
       (if_true (nat_lt 0 (content_len m (t ++ r))) _ _ _ (lt-ltb 0 _ (omega arith)) (ap (plain TOKEN_STRING_CONTENT) (same ∙ sym len)))
 
-  -- the end of a string
+  -- the end of the string is the same before both
   closed_same : length t ≡ cond m 2 1 → piece_len m (t ++ s) ≡ 0 → piece_len m (t ++ r) ≡ 0
   closed_same len stop = by m len stop
     where
@@ -83,7 +83,7 @@ module _ (m : Bool) (t s r : List ℕ) (some : 0 < length t) (alike : GoOnAlike 
   abbrev IsSame : Cut → Type 0
   IsSame cut = cut.len ≡ length t → (cut.change ≡ Stay → piece_len m s ≡ 0 → piece_len m r ≡ 0) → string_cut m (t ++ r) ≡ cut
 
-  -- a token inside a string, which no piece follows after content
+  -- a token inside a string is the same before both, if no piece follows content
   pub string_before : (cut : Cut) → string_cut m (t ++ s) ≡ cut → IsSame cut
   string_before cut is = subst IsSame is
       (cond_both (content_len m (t ++ s) == length (t ++ s)) _ _ IsSame

@@ -1,4 +1,4 @@
--- The errors of error nodes and of repeated entries are those of their elements: these have their ranges and their forms.
+-- Each error of an error node or of a repeated entry is that of its element: it has the element's range, and the element has the error's form.
 use Rattle.std.proofs.Common.{◌≡◌, ℕ, zero, suc, ◌+◌, ◌-◌, ◌<◌, true, List, [], ◌∷◌, ◌++◌, length, Some, refl, ap, sym, ◌∙◌, arith, Bool, false, None, subst}
 use Rattle.std.proofs.Common.{Option, append-nil}
 use Rattle.rnix_kinds.specs.{declared.kinds.SyntaxKind.{SyntaxKind, TheVariants.{NODE_ERROR, NODE_IDENT, NODE_PAT_ENTRY, NODE_ROOT}}, SyntaxKind.is_trivia}
@@ -14,14 +14,14 @@ use Rattle.{rnix_grammar.specs.Ranges.{IsErrorOf, AreErrorsOf, IsEntryName}, rni
 use Rattle.rnix_proof_rows.proofs.{ReadsFilled.{HasTokens, HaveFaultTokens}, PlacedTokens.{ArePlaced, between, row_extent, placed_first}, RowsIn.{IsRowIn, row_first}}
 use Rattle.rnix_proof_rows.proofs.RowsIn.{row_text}
 
--- errors and elements, one list after another
+-- if two lists of errors are those of two lists of elements, so are both joined
 pub errors-++ : (t : Tree) (es fs : List Fault) (ms ns : List ℕ) → AreErrorsOf t es ms → AreErrorsOf t fs ns → AreErrorsOf t (es ++ fs) (ms ++ ns)
 errors-++ t [] fs [] ns h k = k
 errors-++ t [] fs (m ∷ ms) ns h k = absurd h
 errors-++ t (e ∷ es) fs [] ns h k = absurd h
 errors-++ t (e ∷ es) fs (m ∷ ms) ns h k = (h.0, errors-++ t es fs ms ns h.1 k)
 
--- what holds of a forest in a tree with its tokens
+-- what is known of a forest in a tree: its tokens are placed, and its error nodes have tokens
 pub record IsSound (q : SyntaxKind) (s : ℕ) (f : AnnotatedForest) : Type 0 where
   pub placed : ArePlaced s (tokens_in f)
   pub leaf_kind : HaveLeafKinds q f
@@ -29,12 +29,12 @@ pub record IsSound (q : SyntaxKind) (s : ℕ) (f : AnnotatedForest) : Type 0 whe
   pub marked : HaveFaultTokens f
   pub formed : AreFormed q f
 
--- the node of the number p, in which a forest is, is of the kind q, and no other node than the first is a root
+-- the node `p`, of which a forest is a part, has the kind `q`, and no node but the first is a root
 pub record IsRowOf (t : Tree) (p : ℕ) (q : SyntaxKind) : Type 0 where
   pub kind_is : (item t p).kind ≡ q
   pub root : q ≡ NODE_ROOT → p ≡ 0
 
--- the first token of an error node
+-- an error node that begins with a token begins with it in the tree
 first_token : (t : Tree) (m s : ℕ) (c : AnnotatedForest) → IsRowIn t (m + 1) s (Some m) (forget c) → HaveLeafKinds NODE_ERROR c → begins_with_token c ≡ true
     → BeginsWith t m (first_kind (tokens_in c))
 first_token t m s (token k x f) h o b =
@@ -46,7 +46,7 @@ first_token t m s (token k x f) h o b =
     }
 first_token t m s _ h o b = absurd (true_is_not_false (sym b))
 
--- each element of a forest of such tokens is one
+-- each element of a forest of tokens of no wanted kind is such a token
 other_at : (kinds : List SyntaxKind) (n s : ℕ) (p : Option ℕ) (c : AnnotatedForest) (i : ℕ) → i < element_count (forget c) → AreOthers kinds c
     → ((at n s p (forget c) i).is_node ≡ false) × (is_one_of kinds (at n s p (forget c) i).kind ≡ false)
 other_at kinds n s p blank i l h = absurd (omega arith)
@@ -67,18 +67,18 @@ other_tokens t m s kinds c h b o = λ n child.
       ap (λ (i : Item). is_one_of kinds i.kind) here ∙ other.1,
     )
 
--- a forest of such tokens has as many elements
+-- a forest of such tokens has as many elements as tokens
 tokens_counted : (kinds : List SyntaxKind) (c : AnnotatedForest) → AreOthers kinds c → element_count (forget c) ≡ length (tokens_in c)
 tokens_counted kinds blank h = refl
 tokens_counted kinds (token k x f) h = let more = tokens_counted kinds f h.1 in omega (arith, more)
 tokens_counted kinds _ h = absurd h
 
--- where a run stops, never those kinds are wanted that begin an operand
+-- no run is up to exactly the kinds that begin an operand
 no_operand : (until : ExpectedSet) → wanted_kinds until ≡ operand_kinds → ⊥
 no_operand RParen e = cc
 no_operand _ e = cc
 
--- the error of an error node is of the element that stands for the node
+-- the error of an error node is that of the node's element
 pub report_error : (t : Tree) (q : SyntaxKind) (p m s : ℕ) (n : Note) (c f : AnnotatedForest) → HasTokens n c → IsFormed n q c → IsRowOf t p q
     → item t m ≡ at m s (Some p) (forget (fault n c f)) 0
     → IsRowIn t (m + 1) s (Some m) (forget c) → IsSound NODE_ERROR s c → IsErrorOf t (report n (tokens_in c)) m
@@ -123,16 +123,16 @@ report_error t q p m s n c f some form under first h w = by n some form
       form = record { parent = p; is_parent = parent; kind_is = under.kind_is ∙ form };
     }
 
--- nothing is no token
+-- no token is not some token
 pub none_some : {A : Type 0} (x : Token) → None ≡ Some x → A
 none_some x h = absurd (cc)
 
--- the name that a forest begins with is that of a node
+-- the name with which a forest begins is that of a name's node
 name_node : (k : SyntaxKind) (c f : AnnotatedForest) (x : Token) → entry_name (branch k c f) ≡ Some x → (k ≡ NODE_IDENT) × (only_token c ≡ Some x)
 name_node NODE_IDENT c f x h = (refl, h)
 name_node _ c f x h = none_some x h
 
--- a name of a single token, with trivia, is that token
+-- a forest is one token, perhaps with trivia around it
 pub data IsName (x : Token) : AnnotatedForest → Type 0 where
   name : (j : SyntaxKind) → IsName x (token j x blank)
 
@@ -145,7 +145,7 @@ single_token_name blank x b h = none_some x h
 single_token_name (token j y blank) x b h = subst (λ z. IsName x (token j z blank)) (sym (single_token_if (is_trivia y.kind) j y x h)) (name j)
 single_token_name _ x b h = absurd (true_is_not_false (sym b))
 
--- a name at the head of an entry
+-- a name at the beginning of an entry has the range of its node
 name_here : (t : Tree) (e s : ℕ) (x : Token) (d f : AnnotatedForest) → (item t e).kind ≡ NODE_PAT_ENTRY
     → IsRowIn t (e + 1) s (Some e) (forget (branch NODE_IDENT d f)) → ArePlaced s (tokens_in d)
     → IsName x d → IsEntryName t e (extent_in (x ∷ [])) x.text
@@ -164,7 +164,7 @@ name_here t e s x _ f k h a (name j) =
       name_is = sym (append-nil x.text) ∙ sym (row_text t n s (Some e) NODE_IDENT (forget (token j x blank)) (forget f) h);
     }
 
--- the name that the forest of an entry begins with
+-- the name with which the children of an entry begin has the range of its node
 pub row_name : (t : Tree) (e s : ℕ) (c : AnnotatedForest) (x : Token) → (item t e).kind ≡ NODE_PAT_ENTRY → IsRowIn t (e + 1) s (Some e) (forget c)
     → ArePlaced s (tokens_in c)
     → AreNamesSingleTokens c → begins_with_node c ≡ true → entry_name (without_trivia c) ≡ Some x → IsEntryName t e (extent_in (x ∷ [])) x.text

@@ -14,7 +14,7 @@ list = record {
       (leaf k.TOKEN_R_BRACK (codes "]") empty))) empty;
 }
 
--- its child is a token that begins no operand
+-- its child is a token that begins no operand, so the error may be an unexpected item
 bracket_stray : (range : Extent) → HasFormOf list (unwanted k.TOKEN_R_PAREN range operand_kinds) 3
 bracket_stray range = (record { token = record { is_there = omega arith; is_token = refl }; parent = refl; kind_is = refl }, by, λ e. refl)
   where
@@ -27,11 +27,11 @@ bracket_stray range = (record { token = record { is_there = omega arith; is_toke
     by (suc (suc (suc (suc (suc zero))))) h = absurd (let e = h.parent in cc)
     by (suc (suc (suc (suc (suc (suc n)))))) h = absurd (omega (arith, h.is_there))
 
--- where `)` is wanted it would stop a run
+-- it is no error that lists `)`, since this would have ended the run
 wanted_token : (range : Extent) → HasFormOf list (unwanted k.TOKEN_R_PAREN range (k.TOKEN_R_PAREN ∷ [])) 3 → ⊥
 wanted_token range h = true_is_not_false (h.1 4 (record { is_there = omega arith; parent = refl })).1
 
--- and it is neither after the text nor in a pattern
+-- it is no error about items after the text, and none about a second name
 inside_list : (range : Extent) → HasFormOf list (extra range) 3 → ⊥
 inside_list range h = cc
 
@@ -41,7 +41,7 @@ no_pattern range h =
     let kind : k.NODE_LIST ≡ k.NODE_PATTERN = ap (λ n. (item list n).kind) same ∙ h.kind_is in
     cc
 
--- the same with a name in place of the token
+-- `[a]` with an error node over the name, as a node
 abbrev list_of_name : Tree
 list_of_name = record {
   kind = k.NODE_ROOT;
@@ -49,7 +49,7 @@ list_of_name = record {
       (leaf k.TOKEN_R_BRACK (codes "]") empty))) empty;
 }
 
--- a node is no token, whatever is wanted
+-- it is no error about unexpected items, since its child is no token
 node_inside : (range : Extent) → HasFormOf list_of_name (unwanted k.TOKEN_IDENT range []) 3 → ⊥
 node_inside range h = true_is_not_false (h.1 4 (record { is_there = omega arith; parent = refl })).0.is_token
 
@@ -62,7 +62,7 @@ pattern = record {
       (node k.NODE_IDENT (leaf k.TOKEN_IDENT (codes "b") empty) empty)) empty)))) empty;
 }
 
--- it is in the pattern, not in the root
+-- the error node is in the pattern, so the error may be a second name
 second_name : (range : Extent) → HasFormOf pattern (double_bind range) 8
 second_name range = record { parent = 1; is_parent = refl; kind_is = refl }
 

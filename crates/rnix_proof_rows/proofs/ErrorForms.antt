@@ -23,12 +23,12 @@ abbrev may_lead : Bool → SyntaxKind → Bool
 may_lead true kind = if is_one_of operand_kinds kind then false else true
 may_lead false kind = true
 
--- nor does the first of some items, if they are read as a tree of the kind
+-- nor does the first of some items, if these are read as a tree of the kind
 abbrev MayLead : SyntaxKind → List Token → Type 0
 MayLead k [] = Unit {0}
 MayLead k (t ∷ ts) = may_lead (is_error_node k) t.kind ≡ true
 
--- an item that begins an operand may begin its first tree
+-- an item that begins an operand may begin the operand's first tree
 item_leads : (level : ℕ) (kind : SyntaxKind) (text : List ℕ) (next later : Option SyntaxKind)
     → may_lead (is_error_node (first_kind level kind text next later)) kind ≡ true
 item_leads = each_first_tree (λ kind next k. may_lead (is_error_node k) kind ≡ true) (λ next. assumption)
@@ -39,23 +39,23 @@ operand_leads level x [] h = tt
 operand_leads level x (t ∷ ts) h =
     subst (λ (k : SyntaxKind). may_lead (is_error_node k) t.kind ≡ true) h (item_leads level t.kind t.text (head_kind ts) (second_kind ts))
 
--- a row begins with the first operand of an operator, of a call or of a selection
+-- the row begins with the first operand of an operator, of a call or of a selection
 abbrev first_is_operand : Row → Bool
 first_is_operand (Atom · r) = true
 first_is_operand (First n · r) = true
 first_is_operand r = false
 
--- there the first item may begin the first tree
+-- at the beginning of such a row, the first item may begin the first tree
 abbrev Leads : Row → AnnotatedForest → List Token → Type 0
 Leads q f ts = Where (first_is_operand q) (MayLead (first_tree f) ts)
 
--- no other position begins so: after a child
+-- no other rest of a row begins with such an operand: not after a child,
 later_leads : {p : SyntaxKind} (q : Row) (k : SyntaxKind) (f : AnnotatedForest) (ts : List Token) → IsKnown p q → Leads (after q k) f ts
 later_leads {p} q k f ts i = where_none _ (first_is_operand (after q k))
     (not_if (first_is_operand (after q k)) (every (λ k. if first_is_operand (after q k) then false else true)
     (every_known (λ p q. list_all (λ k. if first_is_operand (after q k) then false else true) all_kinds) (λ p. refl) refl p q i) k))
 
--- after a missing part, and after a run
+-- not after a missing part or a run,
 abbrev begins_later : {A : Type 0} → Option (A × Row) → Bool
 begins_later None = false
 begins_later (Some w) = first_is_operand w.1
@@ -69,7 +69,7 @@ run_leads : {p : SyntaxKind} {q r : Row} {kinds : List SyntaxKind} (f : Annotate
 run_leads {p} {q} {r} f ts i m = where_none _ (first_is_operand r) (sym (ap begins_later m)
     ∙ not_if (begins_later (run_at q)) (every_known (λ p q. if begins_later (run_at q) then false else true) (λ p. refl) refl p q i))
 
--- after an error node
+-- and not after an error node
 wrong_leads : {p : SyntaxKind} (note : Note) (d : ℕ) (q r : Row) (ts vs us : List Token) (f : AnnotatedForest) → IsKnown p q → IsWrong note d q r ts vs
     → Leads r f us
 wrong_leads Stray d q r ts vs us f i w = subst (λ z. Leads z f us) w.3 (later_leads q NODE_LITERAL f us i)
@@ -78,7 +78,7 @@ wrong_leads Extra d q r ts vs us f i w = subst (λ z. Leads z f us) (sym (w.3 �
 wrong_leads DoubleBind d q r ts vs us f i w = absurd w
 wrong_leads TooDeep d q r ts vs us f i w = subst (λ z. Leads z f us) w.3 (later_leads q NODE_LITERAL f us i)
 
--- the first tree of a node whose row begins so is that of its first child
+-- the first tree of a node that begins with such an operand is that of its first child
 first_inside : (k : SyntaxKind) (c f : AnnotatedForest) → first_is_operand (row k) ≡ true → first_tree (branch k c f) ≡ first_tree c
 first_inside NODE_SELECT c f h = refl
 first_inside NODE_HAS_ATTR c f h = refl
@@ -86,7 +86,7 @@ first_inside NODE_APPLY c f h = refl
 first_inside NODE_BIN_OP c f h = refl
 first_inside _ c f h = absurd (true_is_not_false (sym h))
 
--- an argument that is not an operand is the name `or`, whose row does not begin so
+-- an argument that is not an operand is the name `or`, which does not begin with such an operand
 called_or : {A : Type 0} (q : Row) (k : SyntaxKind) (c : AnnotatedForest) → is_argument q ≡ true → first_is_operand (row k) ≡ true
     → level_at q (one_branch k c) ≡ None → A
 called_or (Argument · r) k c a e g = by k e g
@@ -96,7 +96,7 @@ called_or (Argument · r) k c a e g = by k e g
     by _ e g = absurd (cc)
 called_or _ k c a e g = absurd (true_is_not_false (sym a))
 
--- where no level is required, a node whose row begins so is the first operand of another
+-- if a node that begins with such an operand may be read at the row, the row begins with such an operand too
 abbrev holds_operands : Row → Bool
 holds_operands q = list_all (λ k. if is_viable (after q k) && first_is_operand (row k) then first_is_operand q else true) all_kinds
 
@@ -111,7 +111,7 @@ first_operand {p} q k c i l e g = by (is_argument q) refl
         (sym (ap (λ w. if w then holds_operands q else true) (ap is_free (sym (level_alone q (one_branch k c) a) ∙ g)))
         ∙ every_known (λ p q. if is_free (level_at q blank) then holds_operands q else true) (λ p. refl) refl p q i) k (and_from _ _ l e)
 
--- so the item that begins a node begins its first operand
+-- so the item that begins a node may begin the node's first operand
 inner_leads : {p : SyntaxKind} (q : Row) (k : SyntaxKind) (c f : AnnotatedForest) (vs : List Token) → IsKnown p q → is_viable (after q k) ≡ true
     → IsOperandOf (level_at q (one_branch k c)) (one_branch k c) vs
     → Leads q (branch k c f) (tokens_in c ++ vs) → Leads (row k) c (tokens_in c ++ vs)
@@ -127,23 +127,23 @@ inner_leads q k c f vs i l o h = by (first_is_operand (row k)) refl (level_at q 
     by true e None g w =
         subst (λ (j : SyntaxKind). MayLead j (tokens_in c ++ vs)) (first_inside k c f e) (where_one (first_is_operand q) (first_operand q k c i l e g) h)
 
--- only tokens, and none of one of the kinds
+-- the forest is of tokens alone, of none of the kinds
 abbrev pub AreOthers : List SyntaxKind → AnnotatedForest → Type 0
 AreOthers kinds blank = Unit {0}
 AreOthers kinds (token k t f) = (is_one_of kinds k ≡ false) × AreOthers kinds f
 AreOthers kinds f = ⊥
 
--- a run of unwanted items
+-- a run of unwanted items is of tokens that are not wanted
 others_row : (until : ExpectedSet) (ts : List Token) → AreUnwanted until ts → AreOthers (wanted_kinds until) (row_of ts)
 others_row until [] h = tt
 others_row until (t ∷ ts) h = (h.0, others_row until ts h.1)
 
--- a single item where no level is required is the first operand of another node
+-- a stray item at a position that requires no level is the first operand of its node
 stray_first : {p : SyntaxKind} (q : Row) → IsKnown p q → is_viable (after q NODE_LITERAL) ≡ true → level_at q blank ≡ None → first_is_operand q ≡ true
 stray_first {p} q i l g = sym (ap (λ w. if w then first_is_operand q else true) (and_from _ _ l (ap is_free g)))
     ∙ every_known (λ p q. if is_viable (after q NODE_LITERAL) && is_free (level_at q blank) then first_is_operand q else true) (λ p. refl) refl p q i
 
--- so it begins no operand
+-- so a stray item begins no operand
 stray_other : {p : SyntaxKind} (q : Row) (ts us : List Token) (f : AnnotatedForest) → IsKnown p q → is_viable (after q NODE_LITERAL) ≡ true → length ts ≡ 1
     → IsOperandOf (level_at q blank) (one_fault Stray (row_of ts)) (tokens_in f ++ us)
     → Leads q (fault Stray (row_of ts) f) ((tokens_in (row_of ts) ++ tokens_in f) ++ us)
@@ -169,7 +169,7 @@ IsFormed Extra parent c = parent ≡ NODE_ROOT
 IsFormed DoubleBind parent c = parent ≡ NODE_PATTERN
 IsFormed TooDeep parent c = Unit {0}
 
--- so it is with each error node of a forest, whose parent is of the kind, and no other node is a root
+-- each error node of a forest below a node of the kind has this form, and no other node is a root
 abbrev pub AreFormed : SyntaxKind → AnnotatedForest → Type 0
 AreFormed parent blank = Unit {0}
 AreFormed parent (token k t f) = AreFormed parent f
@@ -180,12 +180,12 @@ leaves_formed : (ts : List Token) → AreFormed NODE_ERROR (row_of ts)
 leaves_formed [] = tt
 leaves_formed (t ∷ ts) = leaves_formed ts
 
--- no row has a root
+-- no row has a root as a child
 no_root : {p : SyntaxKind} (q : Row) (k : SyntaxKind) → IsKnown p q → is_viable (after q k) ≡ true → k ≡ NODE_ROOT → ⊥
 no_root {p} q k i l e = true_is_not_false (sym l ∙ ap (λ k. is_viable (after q k)) e
     ∙ not_if (is_viable (after q NODE_ROOT)) (every_known (λ p q. if is_viable (after q NODE_ROOT) then false else true) (λ p. refl) refl p q i))
 
--- an error node over items
+-- an error node that is read has its form
 formed : {p : SyntaxKind} (note : Note) (d : ℕ) (q r : Row) (ts us : List Token) (f : AnnotatedForest) → IsKnown p q → is_viable r ≡ true
     → IsWrong note d q r ts (tokens_in f ++ us)
     → Leads q (fault note (row_of ts) f) ((tokens_in (row_of ts) ++ tokens_in f) ++ us) → IsFormed note p (row_of ts)
@@ -195,7 +195,7 @@ formed {p} Extra d q r ts us f i l w h = ends_root (subst (IsKnown p) w.2 i)
 formed DoubleBind d q r ts us f i l w h = absurd w
 formed TooDeep d q r ts us f i l w h = tt
 
--- each error node of a forest
+-- each error node of a forest that is read has its form
 forms : {p : SyntaxKind} {d n : ℕ} {q q' : Row} {b : AnnotatedForest} {us : List Token} {f : AnnotatedForest} {es : List Fault} → Reads p d n q q' b us f es
     → IsKnown p q → is_viable q' ≡ true → Leads q f (tokens_in f ++ us) → AreFormed p f
 forms end i l h = tt
@@ -217,6 +217,6 @@ forms {q = q} {us = us} (inner {k = k} {c = c} {f = f} o s y x j z t) i l h =
       forms t (known_after k i) l (later_leads q k f vs i),
     )
 
--- each error node of a whole text
+-- each error node of a whole text has its form
 pub root_forms : {f : AnnotatedForest} {es : List Fault} → ReadsRoot f es → AreFormed NODE_ROOT f
 root_forms s = forms s (known_row NODE_ROOT) refl tt

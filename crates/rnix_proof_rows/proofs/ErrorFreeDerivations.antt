@@ -1,4 +1,4 @@
--- What is read without an error and an accepted extension is a derivation of its items.
+-- What is read without errors and accepted extensions is a derivation of its items.
 use Rattle.std.proofs.Common.{◌≡◌, ◌≤◌, ℕ, Bool, true, false, List, [], ◌∷◌, ◌++◌, refl, ap, sym, ◌∙◌, subst, append-nil, append_assoc, map, if◌then◌else◌}
 use Rattle.{std.proofs.lemmas.List.map-append, rnix_kinds.specs.declared.kinds.SyntaxKind.{SyntaxKind, TheVariants.{TOKEN_CUR_POS, TOKEN_IDENT, TOKEN_OR}}}
 use Rattle.{rnix_kinds.specs.declared.kinds.SyntaxKind.TheVariants.{NODE_CUR_POS, NODE_IDENT, NODE_ROOT}, rnix_grammar.specs.AnnotatedForest.{Token, lexeme_of}}
@@ -7,7 +7,7 @@ use Rattle.rnix_grammar.specs.{Yield.{kind_of_token, yield}, Tables.{is_or, dept
 use Rattle.{rnix_grammar.specs.{PathPieces.ArePaths, Nest.nest}, rnix_proof_lemmas.{specs.Spelled.{is_spelled, AreSpelled}, proofs.Basics.true_is_not_false}}
 use Rattle.{rnix_proof_lemmas.proofs.SpelledLemmas.{spelled_first, spelled_rest}, rnix_proof_rows.proofs.ReadsShapes.AreErrorFreeRows}
 
--- the trees of a forest without error nodes, over its tokens, are the forest
+-- the tokens after those of the trees of a forest without error nodes are those after the forest
 pub beyond_row : (f : AnnotatedForest) (us : List Token) → AreErrorFreeRows f → beyond (forget f) (tokens_in f ++ us) ≡ us
 beyond_row blank us h = refl
 beyond_row (token k t f) us h = beyond_row f us h
@@ -24,11 +24,11 @@ annotate_row_same (branch k c f) us h =
     (ap (λ x. branch k c (annotate (forget f) x)) (beyond_row c (tokens_in f ++ us) h.2) ∙ ap (branch k c) (annotate_row_same f us h.3))
 annotate_row_same (fault n c f) us h = absurd h
 
--- and so where no more tokens follow
+-- the same with no more tokens after it
 pub annotate_same : (f : AnnotatedForest) → AreErrorFreeRows f → annotate (forget f) (tokens_in f) ≡ f
 annotate_same f h = ap (annotate (forget f)) (sym (append-nil (tokens_in f))) ∙ annotate_row_same f [] h
 
--- each leaf stands for its token
+-- each leaf of the forest yields its token
 name_back : (text : List ℕ) → is_or text ≡ true → kind_of_token TOKEN_IDENT text ≡ TOKEN_OR
 name_back text h = ap (λ w. if w then TOKEN_OR else TOKEN_IDENT) h
 
@@ -52,7 +52,7 @@ remapped_token_kind NODE_CUR_POS TOKEN_IDENT text h = refl
 remapped_token_kind NODE_CUR_POS k text h = kept_back k text h
 remapped_token_kind _ k text h = kept_back k text h
 
--- so the trees stand for the tokens
+-- the trees of the forest yield its tokens
 pub yields_same : (p : SyntaxKind) (f : AnnotatedForest) → AreErrorFreeRows f → HaveLeafKinds p f → AreSpelled (tokens_in f)
     → yield (forget f) ≡ map lexeme_of (tokens_in f)
 yields_same p blank h t s = refl
@@ -65,7 +65,7 @@ yields_same p (branch k c f) h t s =
     ∙ sym (map-append lexeme_of (tokens_in c) (tokens_in f))
 yields_same p (fault n c f) h t s = absurd h
 
--- where the pieces of its paths touch, such a forest is a derivation of its tokens
+-- if the pieces of its paths touch, such a forest is a derivation of its tokens
 pub derived : (f : AnnotatedForest) → AreErrorFreeRows f → HaveLeafKinds NODE_ROOT f → AreSpelled (tokens_in f) → IsExpression (forget f)
     → nest NODE_ROOT (forget f) ≤ depth_limit → ArePaths f []
     → IsDerivation (forget f) (tokens_in f)

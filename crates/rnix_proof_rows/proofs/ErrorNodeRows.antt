@@ -1,4 +1,4 @@
--- What the error nodes of a forest that is read hold, and in which nodes they stand.
+-- What the error nodes of a forest that is read hold, and which nodes contain them.
 use Rattle.{std.proofs.Common.{◌≡◌, ℕ, Bool, true, false, List, [], ◌∷◌, ◌++◌, refl, sym, subst}, rnix_kinds.specs.declared.kinds.SyntaxKind.SyntaxKind}
 use Rattle.rnix_kinds.specs.declared.kinds.SyntaxKind.TheVariants.{NODE_ERROR, NODE_PATTERN, NODE_ROOT}
 use Rattle.rnix_grammar.specs.{declared.rules.Part.TheVariants.{BoundAlready, TextEnd}, Fault.Fault, Rules.{Row, done, ◌·◌}, AnnotatedForest.{Token, Note}}
@@ -19,7 +19,7 @@ ends_root {i} k = where_one true refl (each_known (λ i r. Where (is_text_end r)
 pub ends_pattern : {i : SyntaxKind} → IsKnown i (BoundAlready · done) → i ≡ NODE_PATTERN
 ends_pattern {i} k = where_one true refl (each_known (λ i r. Where (is_bound r) (i ≡ NODE_PATTERN)) (λ i. tt) (assumption) i (BoundAlready · done) k)
 
--- an error node over tokens holds what it may
+-- an error node that is read holds only what it may
 pub holds : (note : Note) (i : SyntaxKind) (d : ℕ) (q r : Row) (ts vs : List Token) → IsWrong note d q r ts vs → IsKnown i q → IsErrorNode note i ts
 holds Stray i d q r ts vs w h = w.0
 holds (Unwanted until) i d q r ts vs w h = (w.0, subst (AreUnwanted until) (sym w.1) (parted until (ts ++ vs)).unwanted)
@@ -31,7 +31,7 @@ leaves_alone : (ts : List Token) → AreErrorNodes NODE_ERROR (row_of ts)
 leaves_alone [] = tt
 leaves_alone (t ∷ ts) = leaves_alone ts
 
--- so does each error node of a forest
+-- each error node of a forest that is read holds only what it may
 pub error_nodes : {i : SyntaxKind} {d n : ℕ} {q q' : Row} {b : AnnotatedForest} {us : List Token} {f : AnnotatedForest} {es : List Fault}
     → Reads i d n q q' b us f es
     → IsKnown i q → AreErrorNodes i f
@@ -46,6 +46,6 @@ error_nodes {i} {d = d} {q = q} {us = us} (wrong {r = r} {f = f} note ts x o w s
 error_nodes (second first over s) h = ((row_some first known_second refl over.0, ends_pattern h), error_nodes first known_second, error_nodes s (known_past h))
 error_nodes (inner {k = k} o inside y x j z s) h = (error_nodes inside (known_row k), error_nodes s (known_after k h))
 
--- so it is in a whole text
+-- each error node of a whole text holds only what it may
 pub root_error_nodes : {f : AnnotatedForest} {es : List Fault} → ReadsRoot f es → AreErrorNodes NODE_ROOT f
 root_error_nodes s = error_nodes s (known_row NODE_ROOT)

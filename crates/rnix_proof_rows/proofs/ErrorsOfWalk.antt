@@ -1,4 +1,4 @@
--- The errors of error nodes are, one by one, of the error nodes that a walk leaves.
+-- The errors of error nodes belong, one by one, to the error nodes that a walk leaves.
 use Rattle.std.proofs.Common.{◌≡◌, ℕ, ◌+◌, Bool, true, false, List, [], ◌∷◌, ◌++◌, map, Option, refl, ap, sym, ◌∙◌, arith, if◌then◌else◌, ◌||◌}
 use Rattle.std.proofs.lemmas.List.{map-append}
 use Rattle.rnix_green.specs.{Forest.{Forest, empty, leaf, node, element_count}, Tree.{Tree, Item, item}, Walk.{Step, Event, event_at, steps_from}}
@@ -6,7 +6,7 @@ use Rattle.rnix_grammar.specs.{Fault.{Fault, unexpected_eof, unexpected_eof_want
 use Rattle.{rnix_grammar.specs.Ranges.{leaves_error, errors_remaining, is_among_if, at_fault_from, AreErrorsOf}, rnix_proof_rows.proofs.RowsIn.{IsRowIn, row_first}}
 use Rattle.rnix_proof_rows.proofs.RowsIn.{row_inside, row_behind_leaf, row_behind_node}
 
--- those of some elements that are error nodes
+-- the elements of a list that are error nodes
 abbrev errors_among : Tree → List ℕ → List ℕ
 errors_among t [] = []
 errors_among t (m ∷ ms) = if is_error_node (item t m).kind then m ∷ errors_among t ms else errors_among t ms
@@ -19,7 +19,7 @@ errors_among-++ t (m ∷ ms) ns =
     ++ errors_among t ns)
     [ true ↦ ap (λ z. m ∷ z) (errors_among-++ t ms ns) | false ↦ errors_among-++ t ms ns ]
 
--- the errors of error nodes are of those elements that are error nodes
+-- the errors of error nodes are those of the elements that are error nodes
 pub node_errors : (t : Tree) (es : List Fault) (ms : List ℕ) → AreErrorsOf t (others es) ms → AreErrorsOf t (of_nodes es) (errors_among t ms)
 node_errors t [] [] h = tt
 node_errors t [] (m ∷ ms) h = absurd h
@@ -30,7 +30,7 @@ node_errors t (duplicated_args range name ∷ es) (m ∷ ms) h = rw h.0.entry_is
 node_errors t (_ ∷ es) [] h = absurd h
 node_errors t (_ ∷ es) (m ∷ ms) h = rw h.0.kind_is (h.0, node_errors t es ms h.1)
 
--- the error nodes that are left by some steps
+-- the error nodes that are left by the steps of a walk
 abbrev errors_at : Tree → List Step → List ℕ
 errors_at t xs = errors_remaining (map (event_at t) xs)
 
@@ -43,18 +43,18 @@ errors_remaining-++ (x ∷ xs) ys =
     ++ errors_remaining ys)
     [ true ↦ ap (λ z. x.1.1.number ∷ z) (errors_remaining-++ xs ys) | false ↦ errors_remaining-++ xs ys ]
 
--- those of steps after others
+-- steps after others leave their error nodes after those of the others
 errors_at-++ : (t : Tree) (xs ys : List Step) → errors_at t (xs ++ ys) ≡ errors_at t xs ++ errors_at t ys
 errors_at-++ t xs ys = ap errors_remaining (map-append (event_at t) xs ys) ∙ errors_remaining-++ (map (event_at t) xs) (map (event_at t) ys)
 
--- an element that is left
+-- a step that leaves an element leaves it as an error node exactly if it is one
 remaining_at : (t : Tree) (n : ℕ) (v w : Bool) (xs : List Step) → (item t n).is_node ≡ v → is_error_node (item t n).kind ≡ w
     → errors_at t ((false, n) ∷ xs) ≡ (if (if v then w else false) then n ∷ errors_at t xs else errors_at t xs)
 remaining_at t n v w xs e f =
     ap (λ b. if (if b then is_error_node (item t n).kind else false) then n ∷ errors_at t xs else errors_at t xs) e
     ∙ ap (λ z. if (if v then z else false) then n ∷ errors_at t xs else errors_at t xs) f
 
--- a node that may be at fault
+-- of a node that is at fault, only an error node is listed
 own_error : (t : Tree) (n : ℕ) (w u : Bool) (ms : List ℕ) → is_error_node (item t n).kind ≡ w
     → errors_among t ((if w || u then n ∷ [] else []) ++ ms) ≡ (if w then n ∷ errors_among t ms else errors_among t ms)
 own_error t n true u ms e = ap (λ z. if z then n ∷ errors_among t ms else errors_among t ms) e

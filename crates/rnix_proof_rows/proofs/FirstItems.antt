@@ -1,4 +1,4 @@
--- What the first item of an operand is, by the kind of the operand's first tree; so it is of each node that is read.
+-- The kind of an operand's first tree restricts the operand's first item. So does the kind of each node that is read.
 use Rattle.std.{specs.List.list_all, proofs.Common.{◌≡◌, ℕ, Bool, true, false, List, [], ◌∷◌, ◌++◌, Option, Some, None, refl, ap, sym, ◌∙◌, subst, append-nil}}
 use Rattle.{std.proofs.Common.{if◌then◌else◌, nat_eq, take, drop}, rnix_kinds.specs.declared.kinds.SyntaxKind.{SyntaxKind, TheVariants.TOKEN_AT}}
 use Rattle.rnix_kinds.specs.declared.kinds.SyntaxKind.TheVariants.{TOKEN_COLON, TOKEN_IDENT, TOKEN_LET}
@@ -24,7 +24,7 @@ begins_pattern TOKEN_IDENT = true
 begins_pattern TOKEN_L_BRACE = true
 begins_pattern kind = false
 
--- an item may be the first of what has a first tree of the kind
+-- an item may be the first of an operand whose first tree has the kind
 abbrev pub may_begin : SyntaxKind → SyntaxKind → List ℕ → Bool
 may_begin NODE_IDENT kind text = if is_or kind then false else (if is_cur_pos text then false else true)
 may_begin NODE_CUR_POS kind text = is_position kind text
@@ -34,12 +34,12 @@ may_begin NODE_PAT_BIND kind text = if is_or kind then false else true
 may_begin NODE_PAT_ENTRY kind text = if is_or kind then false else true
 may_begin k kind text = true
 
--- so may the first of some items, if there is one
+-- the first of some items, if there is one, may begin an operand whose first tree has the kind
 abbrev pub MayBegin : SyntaxKind → List Token → Type 0
 MayBegin k [] = Unit {0}
 MayBegin k (t ∷ ts) = may_begin k t.kind t.text ≡ true
 
--- what begins so may begin with its item
+-- a property of the first tree that an item begins: the item may begin it
 abbrev OperandStarts : SyntaxKind → List ℕ → SyntaxKind → Type 0
 OperandStarts kind text k = may_begin k kind text ≡ true
 
@@ -66,12 +66,12 @@ begins level kind text second third = where_allowed (OperandStarts kind text) le
     by TOKEN_LET = let_begins text second
     by kind = refl
 
--- an operand begins with what may begin its first tree
+-- an operand begins with an item that may begin its first tree
 operand_begins : (level : ℕ) (x : AnnotatedForest) (ts : List Token) → BeginsAs level x ts → MayBegin (first_tree x) ts
 operand_begins level x [] h = tt
 operand_begins level x (t ∷ ts) h = subst (λ (k : SyntaxKind). may_begin k t.kind t.text ≡ true) h (begins level t.kind t.text (head_kind ts) (second_kind ts))
 
--- this is the row of a node that begins with a node
+-- the row begins with a node
 abbrev pub is_first : Row → Bool
 is_first (Atom · r) = true
 is_first (First n · r) = true
@@ -79,16 +79,16 @@ is_first (Child kind · r) = if is_token kind then false else true
 is_first (r or s) = true
 is_first r = false
 
--- such a row in a node of the kind has items of which the first may begin the node's first tree
+-- at a row that begins with a node, inside a node of the kind, the first item may begin that node's first tree
 abbrev pub Fronts : SyntaxKind → Row → AnnotatedForest → List Token → Type 0
 Fronts p q f ts = Where (is_first q) (MayBegin (first_tree (one_branch p f)) ts)
 
--- the first of some items may be that of a name of the kind
+-- the first item may be a name of the kind, where the row allows names
 abbrev pub Names : Row → SyntaxKind → List Token → Type 0
 Names q k [] = Unit {0}
 Names q k (t ∷ ts) = is_named_by q k t ≡ true
 
--- what is known of a node that begins with the next item
+-- what is known about a node that begins with the next item
 abbrev pub Known : Row → SyntaxKind → AnnotatedForest → List Token → Type 0
 Known q k c ts = Names q k ts × Fronts k (row k) c ts
 
@@ -103,7 +103,7 @@ plain_parts : (v w : Bool) → (if v then false else (if w then false else true)
 plain_parts true w h = absurd (true_is_not_false (sym h))
 plain_parts false w h = (refl, not_if w h)
 
--- of an operand, or an operand's first tree
+-- it is known of an operand
 operand_known : (q : Row) (k : SyntaxKind) (c : AnnotatedForest) (ts : List Token) → MayBegin (first_tree (one_branch k c)) ts → Known q k c ts
 operand_known q k c ts h = (names k ts h, where_any (is_first (row k)) h)
   where
@@ -121,7 +121,7 @@ begins_with_operand NODE_HAS_ATTR = true
 begins_with_operand NODE_SELECT = true
 begins_with_operand k = false
 
--- nodes of which something need be known
+-- nodes of which something has to be known
 abbrev is_constrained : SyntaxKind → Bool
 is_constrained NODE_IDENT = true
 is_constrained NODE_CUR_POS = true
@@ -132,7 +132,7 @@ is_constrained NODE_PAT_BIND = true
 is_constrained NODE_PAT_ENTRY = true
 is_constrained k = begins_with_operand k
 
--- each of them is so
+-- a property holds of each of them
 abbrev EachConstrained : (SyntaxKind → Type 0) → Type 0
 EachConstrained P = P NODE_IDENT × P NODE_CUR_POS × P NODE_LAMBDA × P NODE_PATTERN × P NODE_IDENT_PARAM × P NODE_PAT_BIND × P NODE_PAT_ENTRY
     × P NODE_APPLY × P NODE_BIN_OP × P NODE_HAS_ATTR × P NODE_SELECT
@@ -151,14 +151,14 @@ each_constrained P h NODE_HAS_ATTR w = h.9
 each_constrained P h NODE_SELECT w = h.10
 each_constrained P h _ w = absurd (true_is_not_false (sym w))
 
--- of others
+-- nothing has to be known of the others
 other_known : (q : Row) (k : SyntaxKind) (c : AnnotatedForest) (ts : List Token) → is_constrained k ≡ false → Known q k c ts
 other_known q k c [] h = (tt, where_any (is_first (row k)) tt)
 other_known q k c (t ∷ ts) h =
     where_one (if is_constrained k then false else true) (ap (λ w. if w then false else true) h)
     (each_kind (λ k. Where (if is_constrained k then false else true) (Known q k c (t ∷ ts))) (assumption) k)
 
--- of an operator's first operand, or of what is called or selected from
+-- it is known of an operator's first operand, and of what is called or selected from
 led_known : (p : SyntaxKind) (q : Row) (k : SyntaxKind) (c f : AnnotatedForest) (ts : List Token) → begins_with_operand p ≡ true
     → MayBegin (first_tree (one_branch p (branch k c f))) ts → Known q k c ts
 led_known p q k c f ts l h = operand_known q k c ts (subst (λ (g : SyntaxKind). MayBegin g ts) (first_in (one_branch k c) f a_node) (by p l h))
@@ -174,16 +174,16 @@ abbrev pub is_argument : Row → Bool
 is_argument (Argument · r) = true
 is_argument r = false
 
--- rows where a name or a parameter may be, and no operand
+-- rows at which a name or a parameter may be read, but no operand
 abbrev is_settled : SyntaxKind → Row → Bool
 is_settled p q = if is_argument q then false else (if is_first q then (if begins_with_operand p then false else true) else is_free (level_at q blank))
 
--- an item may be the first of a node there: as the row begins, or as it is expected or not
+-- an item may be the first of a node at the row, whether the row begins with it or expects it or not
 abbrev may_stand : SyntaxKind → Row → Bool → SyntaxKind → AnnotatedForest → SyntaxKind → List ℕ → Bool
 may_stand p q touch k f kind text =
     if is_first q then may_begin (first_tree (one_branch p f)) kind text else is_same (expects_item q touch kind) (is_first_expected q k blank)
 
--- so much is known by the first item's kind
+-- what is known of a node, by the kind of the first item
 abbrev KnownBy : SyntaxKind → Row → Bool → SyntaxKind → AnnotatedForest → AnnotatedForest → Token → List Token → SyntaxKind → Type 0
 KnownBy p q touch k c f t ts j =
     Where (may_stand p q touch k (branch k c f) j t.text) (Known q k c (record { kind = j; text = t.text; start = t.start; end = t.end } ∷ ts))
@@ -192,7 +192,7 @@ abbrev AllKnown : Bool → AnnotatedForest → AnnotatedForest → Token → Lis
 AllKnown touch c f t ts p q =
     Where (is_settled p q) (EachConstrained (λ k. Where (is_viable (after q k)) (Each (KnownBy p q touch k c f t ts) all_kinds)))
 
--- computed for some rows at a time
+-- checked by computation, for some rows at a time
 constrained_0 : (touch : Bool) (c f : AnnotatedForest) (t : Token) (ts : List Token) → EachRow (AllKnown touch c f t ts) (take 80 known_rows)
 constrained_0 touch c f t ts = assumption
 
@@ -218,7 +218,7 @@ all_known touch c f t ts =
     (each_parts (AllKnown touch c f t ts) 39 (drop 26 (drop 80 known_rows)) (constrained_106 touch c f t ts)
     (each_parts (AllKnown touch c f t ts) 12 (drop 39 (drop 26 (drop 80 known_rows))) (constrained_145 touch c f t ts) (constrained_157 touch c f t ts))))
 
--- so it is of the first items
+-- this is known for all first items
 settled_known : {p : SyntaxKind} (q : Row) (touch : Bool) (k : SyntaxKind) (c f : AnnotatedForest) (t : Token) (ts : List Token) → IsKnown p q
     → is_settled p q ≡ true → is_constrained k ≡ true → is_viable (after q k) ≡ true → may_stand p q touch k (branch k c f) t.kind t.text ≡ true
     → Known q k c (t ∷ ts)
@@ -229,7 +229,7 @@ settled_known {p} q touch k c f t ts n s i l h =
     (where_one (is_settled p q) s
     (each_known (AllKnown touch c f t ts) (λ p. where_any (is_settled p never) (assumption)) (all_known touch c f t ts) p q n)) k i)) t.kind)
 
--- a row begins with a token or an argument that is there whenever its node is, or there is no row
+-- the row is empty or begins with a token or an argument that its node always has
 abbrev is_child : Row → Bool
 is_child (Child kind · r) = is_token kind
 is_child (Suffix token · r) = true
@@ -238,7 +238,7 @@ is_child (Argument · r) = true
 is_child never = true
 is_child r = false
 
--- elsewhere the next item is asked for, where the row does not begin with a node
+-- at any other row that does not begin with a node, the next item decides what is expected
 asked : (q : Row) (n : ℕ) (t : Token) (ts : List Token) (k : SyntaxKind) (c : AnnotatedForest) → is_child q ≡ false → is_first q ≡ false
     → IsExpected q n (t ∷ ts) (is_first_expected q k c) → is_same (expects_item q (nat_eq t.start n) t.kind) (is_first_expected q k blank) ≡ true
 asked done n t ts k c h f e = same_true _ _ e
@@ -252,7 +252,7 @@ asked (_ · r) n t ts k c h f e = same_true _ _ e
 asked never n t ts k c h f e = absurd (true_is_not_false h)
 asked (r or s) n t ts k c h f e = absurd (true_is_not_false f)
 
--- where a row begins with a node, or a name or a parameter may be
+-- it is known where a row begins with a node, or a name or a parameter may be read
 by_item : {p : SyntaxKind} (q : Row) (k : SyntaxKind) (c f : AnnotatedForest) (n : ℕ) (ts : List Token) → IsKnown p q → is_settled p q ≡ true
     → is_constrained k ≡ true
     → is_viable (after q k) ≡ true → (is_first q ≡ false → is_child q ≡ false) → IsExpected q n ts (is_first_expected q k c) → Fronts p q (branch k c f) ts
@@ -266,7 +266,7 @@ by_item {p} q k c f n (t ∷ ts) i s o l a x h = settled_known q (nat_eq t.start
     by true e h = h
     by false e h = asked q n t ts k c (a e) e x
 
--- after a token that is there whenever its node is no name and no parameter stands
+-- after a token that its node always has, no name and no parameter is read
 abbrev none_constrained : Row → Bool
 none_constrained q = list_all (λ k. if is_viable (after q k) then (if is_constrained k then false else true) else true) all_kinds
 
@@ -279,7 +279,7 @@ child_unconstrained {p} q k n h a l = not_if (is_constrained k) (implied (λ k. 
     (sym (ap (λ w. if w then true else none_constrained q) a) ∙ sym (ap (λ w. if w then (if is_argument q then true else none_constrained q) else true) h)
     ∙ every_known (λ p q. is_unconstrained q) (λ p. refl) refl p q n) k l)
 
--- the name `or` after a function
+-- it is known of the name `or` after a function
 called_known : (q : Row) (k : SyntaxKind) (c : AnnotatedForest) (n : ℕ) (ts : List Token) → is_argument q ≡ true → level_at q (one_branch k c) ≡ None
     → IsExpected q n ts (is_first_expected q k c) → Known q k c ts
 called_known (Argument · r) k c n ts a e x = by (is_or_row (one_branch k c)) refl e x
@@ -295,12 +295,12 @@ called_known (Argument · r) k c n ts a e x = by (is_or_row (one_branch k c)) re
     by false e l x = absurd (cc)
 called_known _ k c n ts a e x = absurd (true_is_not_false (sym a))
 
--- the level depends on the row alone, but before an argument
+-- except before an argument, the level depends on the row alone
 pub level_alone : (q : Row) (x : AnnotatedForest) → is_argument q ≡ false → level_at q x ≡ level_at q blank
 level_alone (Argument · r) x h = absurd (true_is_not_false h)
 level_alone _ x h = refl
 
--- where no level is asked for
+-- it is known at each row that requires no level
 free_known : {p : SyntaxKind} (q : Row) (k : SyntaxKind) (c f : AnnotatedForest) (n : ℕ) (ts : List Token) → IsKnown p q → is_viable (after q k) ≡ true
     → IsExpected q n ts (is_first_expected q k c) → Fronts p q (branch k c f) ts → level_at q (one_branch k c) ≡ None → is_argument q ≡ false
     → is_constrained k ≡ true
@@ -319,7 +319,7 @@ free_known {p} q k c f n ts i l x h e a o = by (is_first q) refl (begins_with_op
     by false b v g true d = absurd (true_is_not_false (sym o ∙ child_unconstrained q k i d a l))
     by false b v g false d = by_item q k c f n ts i (settled false true b (ap is_free (sym (level_alone q (one_branch k c) a) ∙ e))) o l (λ z. d) x h
 
--- what is known of a node where it stands
+-- it is known of each node where it is read
 pub node_known : {p : SyntaxKind} (q : Row) (k : SyntaxKind) (c f : AnnotatedForest) (n : ℕ) (vs : List Token) → IsKnown p q → is_viable (after q k) ≡ true
     → IsExpected q n (tokens_in c ++ vs) (is_first_expected q k c) → IsOperandOf (level_at q (one_branch k c)) (one_branch k c) vs
     → Fronts p q (branch k c f) (tokens_in c ++ vs) → Known q k c (tokens_in c ++ vs)

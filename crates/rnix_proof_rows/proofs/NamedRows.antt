@@ -1,4 +1,4 @@
--- Names stand where they may: a node that is read as one begins with a token that the rest of its row has for names.
+-- Names are only where they may be: a node that is read as a name begins with a token that its parent's row accepts as a name.
 use Rattle.std.{specs.List.list_all, proofs.Common.{◌≡◌, ℕ, Bool, true, false, List, [], ◌∷◌, ◌++◌, Option, Some, None, refl, ap, sym, ◌∙◌, subst}}
 use Rattle.{std.proofs.{Common.{append_assoc, if◌then◌else◌, ◌&&◌}, lemmas.Bool.and_parts}, rnix_kinds.specs.declared.kinds.SyntaxKind.SyntaxKind}
 use Rattle.rnix_kinds.specs.declared.kinds.SyntaxKind.TheVariants.{TOKEN_AT, TOKEN_IDENT, NODE_CUR_POS, NODE_IDENT, NODE_LITERAL, NODE_PATTERN, NODE_PAT_BIND}
@@ -23,7 +23,7 @@ heads_on : (test : SyntaxKind → Bool) (ts us : List Token) → Heads test ts �
 heads_on test [] us h = absurd h
 heads_on test (t ∷ ts) us h = h
 
--- a name is the leaf of a name
+-- the child of a name is a name's leaf
 abbrev is_name : SyntaxKind → Bool
 is_name kind = same_kind TOKEN_IDENT (leaf_kind_as NODE_IDENT kind)
 
@@ -42,7 +42,7 @@ name_heads (inner {k = k} o s y x j z h) i w e =
     let one = child_is TOKEN_IDENT k done (ap (λ q. is_viable (after q k)) (sym e) ∙ reads_viable h (end_viable _ w)) in
     absurd (true_is_not_false (sym (reads_viable s (end_viable _ y.0)) ∙ ap (λ k. is_viable (row k)) (sym one.0)))
 
--- the row of a bound name begins with a token of its own or with a name
+-- a bound name begins with `@` or with a name
 abbrev Binds : AnnotatedForest → Type 0
 Binds (token k t f) = is_viable (after (row NODE_PAT_BIND) t.kind) ≡ true
 Binds (branch k c f) = Heads is_name (tokens_in c)
@@ -73,7 +73,7 @@ binds {d = d} {us = us} (wrong {r = r} {f = f} note ts x o v h) i w e =
 binds (second s y h) i w e = absurd (cc)
 binds (inner {k = k} o s y x j z h) i w e = binds_node k s y.0 (ap (λ q. is_viable (after q k)) (sym e) ∙ reads_viable h (end_viable _ w))
 
--- after its pattern it begins with `@`
+-- a bound name after its pattern begins with `@`
 bound_behind : (r : Row) (n : ℕ) (c : AnnotatedForest) (vs : List Token) → Binds c → IsExpected (EndOr NODE_PAT_BIND · r) n (tokens_in c ++ vs) true
     → begins_with_token c ≡ true
 bound_behind r n (token k t f) vs b x = refl
@@ -86,13 +86,13 @@ bound_behind r n (branch k c f) vs b x =
     apart (t ∷ ts) h x = never is_name (same_kind TOKEN_AT) refl t.kind h x
 bound_behind r n _ vs b x = absurd b
 
--- and before it with the name
+-- a bound name before its pattern begins with the name
 bound_before : (c : AnnotatedForest) (vs : List Token) → Binds c → MayBegin NODE_PATTERN (tokens_in c ++ vs)
     → (if begins_with_token c then false else true) ≡ true
 bound_before (token k t f) vs b h = absurd (never begins_pattern (λ j. is_viable (after (row NODE_PAT_BIND) j)) refl t.kind h b)
 bound_before _ vs b h = refl
 
--- a bound name stands where the row may end before it, or first in a pattern
+-- the row may end or go on with a bound name; before its pattern, a bound name is the first child
 abbrev pub is_end_or : Row → Bool
 is_end_or (EndOr kind · r) = true
 is_end_or r = false
@@ -122,7 +122,7 @@ bind_allowed (EndOr kind · r) c f n vs i l b x h =
     only_viable false r l = l
 bind_allowed q c f n vs i l b x h = bound_before c vs b (first_bound q c f (tokens_in c ++ vs) i l refl h)
 
--- a node is a name, the current position or a bound name only where it may be
+-- a node is a name, `__curPos` or a bound name only where it may be
 node_allowed : {p : SyntaxKind} (q : Row) (k : SyntaxKind) (c f : AnnotatedForest) (n : ℕ) (vs : List Token) → IsKnown p q → is_viable (after q k) ≡ true
     → IsExpected q n (tokens_in c ++ vs) (is_first_expected q k c) → Names q k (tokens_in c ++ vs) → Fronts p q (branch k c f) (tokens_in c ++ vs)
     → (k ≡ NODE_PAT_BIND → Binds c) → is_name_allowed q k c ≡ true
@@ -133,14 +133,14 @@ node_allowed q NODE_CUR_POS _ f n vs i l x m h b = refl
 node_allowed q NODE_PAT_BIND c f n vs i l x m h b = bind_allowed q c f n vs i l (b refl) x h
 node_allowed q k c f n vs i l x m h b = elim (only_token c) as (λ w. is_named_in q k w ≡ true) [ None ↦ refl | Some t ↦ refl ]
 
--- where no node stands, no name does
+-- a forest without nodes has no names
 none_named : (q : Row) (f : AnnotatedForest) → HasNoNode f → AreNamed q f
 none_named q blank h = tt
 none_named q (token k t f) h = none_named (after q k) f h
 none_named q (branch k c f) h = absurd h
 none_named q (fault note c f) h = none_named (after_error q note) f h
 
--- after the first tree a row does not begin with a node that is there whenever its node is
+-- after its first tree, no row begins with a node that its parent always has
 pub where_none : (P : Type 0) (w : Bool) → w ≡ false → Where w P
 where_none P true e = absurd (true_is_not_false e)
 where_none P false e = tt
@@ -149,7 +149,7 @@ later_fronts : {p : SyntaxKind} (q : Row) (k : SyntaxKind) (f : AnnotatedForest)
 later_fronts {p} q k f ts i = where_none _ (is_first (after q k)) (not_if (is_first (after q k)) (every (λ k. if is_first (after q k) then false else true)
     (every_known (λ p q. list_all (λ k. if is_first (after q k) then false else true) all_kinds) (λ p. refl) refl p q i) k))
 
--- nor after an error node
+-- nor does it after an error node
 abbrev runs_later : Option (List SyntaxKind × Row) → Bool
 runs_later None = true
 runs_later (Some w) = if is_first w.1 then false else true
@@ -163,7 +163,7 @@ wrong_fronts {p} Extra d q r ts vs us f i w = subst (λ z. Fronts p z f us) (sym
 wrong_fronts DoubleBind d q r ts vs us f i w = absurd w
 wrong_fronts {p} TooDeep d q r ts vs us f i w = subst (λ z. Fronts p z f us) w.3 (later_fronts q NODE_LITERAL f us i)
 
--- each name of a forest stands where it may
+-- each name of a forest that is read is where it may be
 named_row : {p : SyntaxKind} {d n : ℕ} {q q' : Row} {b : AnnotatedForest} {us : List Token} {f : AnnotatedForest} {es : List Fault} → Reads p d n q q' b us f es
     → IsKnown p q → is_viable q' ≡ true → Fronts p q f (tokens_in f ++ us) → AreNamed q f
 named_row end i l h = tt
@@ -184,6 +184,6 @@ named_row {n = n} {q = q} {us = us} (inner {k = k} {c = c} {f = f} o s y x j z t
       named_row t (known_after k i) l (later_fronts q k f vs i),
     )
 
--- so it is in a whole text
+-- each name of a whole text is where it may be
 pub are_named : {f : AnnotatedForest} {es : List Fault} → ReadsRoot f es → AreNamed (row NODE_ROOT) f
 are_named s = named_row s (known_row NODE_ROOT) refl tt

@@ -1,4 +1,4 @@
--- The errors of a forest are, one by one, those of its error nodes and of its entries that repeat a name, as these close.
+-- The errors of a forest belong, one by one, to its error nodes and to its entries that repeat a name, as these close.
 use Rattle.std.proofs.Common.{◌≡◌, ℕ, ◌+◌, Bool, true, false, List, [], ◌∷◌, length, Option, Some, None, refl, ap, sym, ◌∙◌, arith, subst, if◌then◌else◌}
 use Rattle.{std.proofs.Common.{bytes_eq, ◌||◌}, rnix_kinds.specs.declared.kinds.SyntaxKind.{SyntaxKind, TheVariants.{NODE_ERROR, NODE_PAT_ENTRY}}}
 use Rattle.{rnix_kinds.specs.SyntaxKind.is_trivia, rnix_green.specs.{Forest.{text_of, element_count}, Tree.{Tree, Item, item}}}
@@ -11,12 +11,12 @@ use Rattle.rnix_proof_rows.proofs.{TreeShapes.{Lists, without_trivia_name, repea
 use Rattle.rnix_proof_rows.proofs.{PlacedTokens.{placed_rest, forget-length}, RowsIn.{IsRowIn, row_first, row_inside, row_behind_leaf, row_behind_node}}
 use Rattle.rnix_proof_rows.proofs.ErrorElements.{errors-++, IsSound, IsRowOf, report_error, row_name, none_some}
 
--- one or the other
+-- a disjunction of two tests does not depend on their order
 swapped : (x y : Bool) → (if x then true else (if y then true else false)) ≡ (if y then true else x)
 swapped true true = refl
 swapped _ _ = refl
 
--- the names before a forest, with that of one more node
+-- the names before a forest, with that of one more node, are the names before the next one
 lists_node : (names : List (List ℕ)) (b : AnnotatedForest) (k : SyntaxKind) (c : AnnotatedForest) → Lists names b
     → Lists (with_name (name_of (name_of_items k c)) names) (b ⊕ one_branch k c)
 lists_node names b k c h = λ name. has-⊕ name b (one_branch k c) ∙ ap (λ x. if has_entry name b then true else x) (has_branch name k c blank)
@@ -27,7 +27,7 @@ lists_node names b k c h = λ name. has-⊕ name b (one_branch k c) ∙ ap (λ x
     by_name name None = if_not (has_entry name b) ∙ h name
     by_name name (Some x) = swapped (has_entry name b) (bytes_eq name x.text) ∙ ap (λ z. if bytes_eq name x.text then true else z) (h name)
 
--- so with trivia
+-- the same with trivia
 lists_branch : (names : List (List ℕ)) (b : AnnotatedForest) (k : SyntaxKind) (c : AnnotatedForest) → HaveLeafKinds k c → Lists names (without_trivia b)
     → Lists (with_name (name_if k (forget c)) names) (without_trivia (b ⊕ one_branch k c))
 lists_branch names b k c o h =
@@ -35,7 +35,7 @@ lists_branch names b k c o h =
     (subst (Lists (with_name (name_of (name_of_items k (without_trivia c))) names)) (sym (without_trivia-⊕ b (one_branch k c)))
     (lists_node names (without_trivia b) k (without_trivia c) h))
 
--- a leaf is no entry
+-- a leaf adds no name
 lists_token : (names : List (List ℕ)) (b : AnnotatedForest) (k : SyntaxKind) (x : Token) → Lists names (without_trivia b)
     → Lists names (without_trivia (b ⊕ one_token k x))
 lists_token names b k x h = λ name. ap (has_entry name) (without_trivia-⊕ b (one_token k x))
@@ -45,13 +45,13 @@ lists_token names b k x h = λ name. ap (has_entry name) (without_trivia-⊕ b (
     by name true = if_not (has_entry name (without_trivia b)) ∙ h name
     by name false = if_not (has_entry name (without_trivia b)) ∙ h name
 
--- nor is an error node
+-- an error node adds no name
 lists_fault : (names : List (List ℕ)) (b : AnnotatedForest) (n : Note) (c : AnnotatedForest) → Lists names (without_trivia b)
     → Lists names (without_trivia (b ⊕ one_fault n c))
 lists_fault names b n c h = λ name. ap (has_entry name) (without_trivia-⊕ b (one_fault n c)) ∙ has-⊕ name (without_trivia b) (one_fault n (without_trivia c))
     ∙ if_not (has_entry name (without_trivia b)) ∙ h name
 
--- what has a name is an entry
+-- a node with an entry's name is an entry
 named_entry : (k : SyntaxKind) (c : AnnotatedForest) (x : Token) → name_of_items k c ≡ Some x → (k ≡ NODE_PAT_ENTRY) × (entry_name c ≡ Some x)
 named_entry NODE_PAT_ENTRY c x h = (refl, h)
 named_entry _ c x h = none_some x h
@@ -69,7 +69,7 @@ entry_error t n names b (Some x) l h =
       | false ↦ tt
     ])
 
--- so is a node
+-- a node is reported exactly if it repeats a name
 node_error : (t : Tree) (n : ℕ) (names : List (List ℕ)) (b : AnnotatedForest) (k : SyntaxKind) (c : AnnotatedForest) → is_error_node k ≡ false
     → HaveLeafKinds k c → Lists names b
     → ((x : Token) → k ≡ NODE_PAT_ENTRY → entry_name (without_trivia c) ≡ Some x → IsEntryName t n (extent_in (x ∷ [])) x.text)
@@ -82,7 +82,7 @@ node_error t n names b k c e o l h =
     (sym (repeats_named k b (without_trivia c)))
     (entry_error t n names b (name_of_items k (without_trivia c)) l (λ x g. (let w = named_entry k (without_trivia c) x g in h x w.0 w.1))))
 
--- the errors of a forest are those of its elements
+-- the errors of a forest are those of its elements at fault
 pub row_errors : (t : Tree) (q : SyntaxKind) (n s p : ℕ) (b : AnnotatedForest) (names : List (List ℕ)) (f : AnnotatedForest)
     → IsRowIn t n s (Some p) (forget f) → IsRowOf t p q → IsSound q s f → Lists names (without_trivia b)
     → AreErrorsOf t (reports_within b f) (at_fault_from n names (forget f))

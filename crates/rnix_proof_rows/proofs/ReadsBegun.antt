@@ -1,4 +1,4 @@
--- In a repaired forest, except for numbers that stand for no token, each node's children begin a row of its kind.
+-- In a repaired forest, apart from numbers that replace no token, each node's children begin a row of its kind.
 use Rattle.std.proofs.Common.{◌≡◌, ℕ, true, false, List, [], ◌∷◌, ◌++◌, refl, ap, sym, ◌∙◌, subst, if◌then◌else◌}
 use Rattle.{rnix_kinds.specs.declared.kinds.SyntaxKind.SyntaxKind, rnix_green.specs.Forest.{Forest, empty}, rnix_grammar.specs.Fault.Fault}
 use Rattle.rnix_grammar.specs.AnnotatedForest.{Token, Note, Stray, TooDeep, AnnotatedForest, blank, token, branch, fault, row_of, tokens_in, is_some, leaf_kind}
@@ -10,7 +10,7 @@ use Rattle.rnix_proof_rows.proofs.{RowsWithoutAttrpath.{missing_no_attrpath, Has
 use Rattle.rnix_proof_rows.proofs.RepairedRows.{Simulates, simulates_self, simulates_same, simulates_both, simulates_completable, second_simulates}
 use Rattle.rnix_proof_rows.proofs.RepairedRows.{after_repair, wrong_simulates}
 
--- a forest of error nodes without tokens holds nothing
+-- a repaired forest of error nodes without tokens is empty
 nonempty_none : (f : AnnotatedForest) → HasNoNode f → tokens_in f ≡ [] → repaired_nonempty f ≡ empty
 nonempty_none blank h n = refl
 nonempty_none (token k t f) h n = absurd (not_nil n)
@@ -19,26 +19,26 @@ nonempty_none (fault note c f) h n =
     ap (λ o. if is_some o then repair note (repaired_nonempty f) else repaired_nonempty f) (none_remaining (tokens_in c) (tokens_in f) n)
     ∙ nonempty_none f h (none_right (tokens_in c) (tokens_in f) n)
 
--- a row that can be completed, of nodes that are begun
+-- the children so far begin a row that can be completed, and so do those of each node among them
 pub record IsBegun (q : Row) (f : Forest) : Type 0 where
   pub row : IsCompletable (after_all q (kinds_of f))
   pub nodes : AreBegun f
 
--- where nothing is held the row ends here
+-- an empty forest begins a row that can be completed
 none_begun : (q : Row) (f : Forest) → f ≡ empty → IsCompletable q → IsBegun q f
 none_begun q f n w = subst (IsBegun q) (sym n) (record { row = w; nodes = tt })
 
--- a row as it begins
+-- the first children of a row that can be completed begin a row of the kind
 pub beginning : (k : SyntaxKind) (ks : List SyntaxKind) → IsCompletable (after_all (row k) ks) → IsBeginning k ks
 beginning k ks w = record { more = w.0; is = w.1 }
 
--- a repair begins its row, and is in one
+-- the repair of an error node is one more child of its row
 begun_repair : (n : Note) (q : Row) (f : Forest) → IsBegun (after_repair n q) f → IsBegun q (repair n f)
 begun_repair Stray q f h = record { row = h.row; nodes = (record { more = []; is = refl }, tt, h.nodes) }
 begun_repair TooDeep q f h = record { row = h.row; nodes = (record { more = []; is = refl }, tt, h.nodes) }
 begun_repair _ q f h = assumption
 
--- each node of what is held begins its row, and so does the row itself
+-- the children of each node of a forest that is read, and the forest itself, begin their rows
 pub reads_begun : {p : SyntaxKind} {d n : ℕ} {q q' : Row} {b : AnnotatedForest} {us : List Token} {f : AnnotatedForest} {es : List Fault} (q0 : Row)
     → Reads p d n q q' b us f es → may_end q' ≡ true → IsKnown p q → Simulates q0 q → IsBegun q0 (repaired_nonempty f)
 reads_begun q0 end w i m = record { row = ([], m.ends ∙ w); nodes = tt }

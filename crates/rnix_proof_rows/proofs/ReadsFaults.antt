@@ -9,7 +9,7 @@ use Rattle.rnix_proof_lemmas.{specs.RowReports.reports_behind, proofs.{Annotated
 use Rattle.rnix_proof_lemmas.proofs.{Basics.{true_is_not_false, not_nil, none_right, none_remaining}, ReachableRows.{IsKnown, known_row, known_second, known_after}}
 use Rattle.rnix_proof_lemmas.proofs.ReachableRows.{known_missing, known_past, known_wrong}
 
--- the others of two lists
+-- the errors of two joined lists that are not at the end of the text are those of both
 pub others-++ : (es fs : List Fault) → others (es ++ fs) ≡ others es ++ others fs
 others-++ [] fs = refl
 others-++ (e ∷ es) fs =
@@ -21,27 +21,27 @@ pub plain_report : (n : Note) (ts : List Token) → is_ended (report n ts) ≡ f
 plain_report Stray ts = refl
 plain_report _ ts = cc
 
--- leaves alone have no errors
+-- leaves alone report no errors
 pub reports-row_of : (b : AnnotatedForest) (ts : List Token) → reports_behind b (row_of ts) ≡ []
 reports-row_of b [] = refl
 reports-row_of b (t ∷ ts) = reports-row_of (b ⊕ one_token t.kind t) ts
 
--- lists of wanted kinds in two lists of errors
+-- if the lists of wanted kinds in two lists of errors are known, so are those in both joined
 named-++ : (es fs : List Fault) → AreNamedLists es → AreNamedLists fs → AreNamedLists (es ++ fs)
 named-++ [] fs h k = k
 named-++ (e ∷ es) fs h k = (h.0, named-++ es fs h.1 k)
 
--- the error of an error node has no list of these
+-- the error of an error node lists no kinds that are wanted at the end
 named_report : (n : Note) (ts : List Token) → IsNamedList (report n ts)
 named_report Stray ts = tt
 named_report _ ts = cc
 
--- some error is of the end of the text
+-- some error is at the end of the text
 abbrev pub HasEnded : List Fault → Type 0
 HasEnded [] = ⊥
 HasEnded (e ∷ es) = (is_ended e ≡ true) ⊎ HasEnded es
 
--- in one of two lists
+-- if two joined lists have such an error, one of them has
 has-++ : (es fs : List Fault) → HasEnded (es ++ fs) → HasEnded es ⊎ HasEnded fs
 has-++ [] fs h = inr h
 has-++ (e ∷ es) fs h = elim h [ inl x ↦ inl (inl x) | inr x ↦ further (has-++ es fs x) ]
@@ -49,22 +49,22 @@ has-++ (e ∷ es) fs h = elim h [ inl x ↦ inl (inl x) | inr x ↦ further (has
     further : HasEnded es ⊎ HasEnded fs → ((is_ended e ≡ true) ⊎ HasEnded es) ⊎ HasEnded fs
     further w = elim w [ inl y ↦ inl (inr y) | inr y ↦ inr y ]
 
--- tokens in two lists of errors
+-- if two lists of errors report no misplaced token, neither do both joined
 none-++ : (es fs : List Fault) → NoneMisplaced es → NoneMisplaced fs → NoneMisplaced (es ++ fs)
 none-++ [] fs h k = k
 none-++ (e ∷ es) fs h k = (h.0, none-++ es fs h.1 k)
 
--- the order of two lists
+-- two joined lists report no token after an error at the end of the text, if neither does alone and the second reports none after such an error in the first
 settled-++ : (es fs : List Fault) → NoErrorAfterEnd es → NoErrorAfterEnd fs → (HasEnded es → NoneMisplaced fs) → NoErrorAfterEnd (es ++ fs)
 settled-++ [] fs h k r = k
 settled-++ (e ∷ es) fs h k r = (settled-++ es fs h.0 k (λ x. r (inr x)), λ x. none-++ es fs (h.1 x) (r (inl x)))
 
--- no token is wrong by an error at the end of the text
+-- an error at the end of the text reports no misplaced token
 ended_placed : (e : Fault) → is_ended e ≡ true → is_misplaced e ≡ false
 ended_placed (Fault.unwanted k r ks) h = absurd (true_is_not_false (sym h))
 ended_placed _ h = cc
 
--- errors of which none is of the end of the text or of a wrong token
+-- no error of a list is at the end of the text or about a misplaced token
 pub record NeitherEndNorMisplaced (es : List Fault) : Type 0 where
   pub reports : others es ≡ es
   pub named : AreNamedLists es
@@ -84,11 +84,11 @@ neither_one e p m n = record {
   ended = λ h. elim h [ inl x ↦ true_is_not_false (sym x ∙ p) | inr x ↦ x ];
 }
 
--- so is the error of a second name
+-- this holds for the error of a second name
 pub neither_second : (ts : List Token) → NeitherEndNorMisplaced (report DoubleBind ts ∷ [])
 neither_second ts = neither_one (report DoubleBind ts) refl refl tt
 
--- and so are those of a node that repeats a name
+-- this holds for the errors of a node that repeats a name
 pub neither_repeats : (k : SyntaxKind) (b c : AnnotatedForest) → NeitherEndNorMisplaced (repeats k b c)
 neither_repeats NODE_PAT_ENTRY b c = by (entry_name c)
   where
@@ -99,7 +99,7 @@ neither_repeats NODE_PAT_ENTRY b c = by (entry_name c)
         [ true ↦ neither_one (duplicated_args (extent_of (t ∷ [])) t.text) refl refl tt | false ↦ neither_none ]
 neither_repeats _ b c = neither_none
 
--- an error node with no token is nested too deep
+-- only an error node that is nested too deep may have no token
 empty_report : (note : Note) (d : ℕ) (q r : Row) (vs : List Token) → IsWrong note d q r [] vs → is_misplaced (report note []) ≡ false
 empty_report Stray d q r vs w = absurd (cc)
 empty_report (Unwanted until) d q r vs w = absurd (true_is_not_false (sym w.0))
@@ -107,9 +107,9 @@ empty_report Extra d q r vs w = absurd (true_is_not_false (sym w.0))
 empty_report DoubleBind d q r vs w = absurd w
 empty_report TooDeep d q r vs w = refl
 
--- What is so of the errors of a forest: those that are not of the end of the text are those of the error nodes and of repeated entries, as these close;
--- each list of wanted kinds is one of those that tokens are wanted by; where no token is, none is wrong; after an error at the end of the text no item
--- is left, and no token is wrong.
+-- What holds of the errors of a forest: those that are not at the end of the text are those of the error nodes and of repeated entries, as these close;
+-- each list of wanted kinds is a known one; if the forest has no tokens, no token is reported as wrong; after an error at the end of the text no item
+-- is left, and no token is reported as wrong.
 pub record Errors (f : AnnotatedForest) (us : List Token) (rs es : List Fault) : Type 0 where
   pub reports : others es ≡ rs
   pub named : AreNamedLists es
@@ -117,7 +117,7 @@ pub record Errors (f : AnnotatedForest) (us : List Token) (rs es : List Fault) :
   pub last : HasEnded es → us ≡ []
   pub settled : NoErrorAfterEnd es
 
--- those of a node, its own and those after it
+-- if this holds of the errors of a node's children and of the trees after it, it holds of the errors of the node and these trees
 joined : (c f g : AnnotatedForest) (us vs : List Token) (ds os es ps rs : List Fault) → tokens_in g ≡ tokens_in c ++ tokens_in f → vs ≡ tokens_in f ++ us
     → Errors c vs ps ds
     → NeitherEndNorMisplaced os → Errors f us rs es → Errors g us (ps ++ (os ++ rs)) ((ds ++ os) ++ es)
@@ -135,7 +135,7 @@ joined c f g us vs ds os es ps rs t v h o w = record {
       (λ m. elim (has-++ ds os m) [ inl e ↦ w.none (none_remaining (tokens_in f) us (sym v ∙ h.last e)) | inr e ↦ absurd (o.ended e) ]);
 }
 
--- so it is with each forest
+-- so are the errors of each forest that is read
 pub reads_errors : {p : SyntaxKind} {d n : ℕ} {q q' : Row} {b : AnnotatedForest} {us : List Token} {f : AnnotatedForest} {es : List Fault}
     → Reads p d n q q' b us f es → IsKnown p q → Errors f us (reports_behind b f) es
 reads_errors end i = record { reports = refl; named = tt; none = λ n. tt; last = λ h. absurd h; settled = tt }

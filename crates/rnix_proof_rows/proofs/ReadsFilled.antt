@@ -1,4 +1,4 @@
--- Which nodes of a forest that is read have trees: those inside error nodes, and all where there is no error; which error nodes have tokens.
+-- Which nodes of a forest that is read contain trees: those inside error nodes, and, without errors, all. Which error nodes contain tokens.
 use Rattle.std.{specs.List.list_all, proofs.Common.{◌≡◌, ℕ, Bool, true, false, List, [], ◌∷◌, ◌++◌, refl, ap, sym, ◌∙◌, ◌&&◌, if◌then◌else◌}}
 use Rattle.{std.proofs.lemmas.Bool.and_from, rnix_kinds.specs.declared.kinds.SyntaxKind.{SyntaxKind, TheVariants.{NODE_ERROR, NODE_IDENT, NODE_LITERAL}}}
 use Rattle.{rnix_kinds.{specs.SyntaxKind.is_trivia, proofs.AllKinds.{all_kinds, implied}}, rnix_green.specs.Equality.{same_kind, same_kind-decides}}
@@ -12,14 +12,14 @@ use Rattle.rnix_proof_lemmas.proofs.{ReachableRows.{known_second, known_after, k
 use Rattle.rnix_proof_rows.proofs.{RowsWithoutAttrpath.{begins_with_child, row_some}, AttachTriviaLemmas.HasTree, RepairedRows.start_half}
 use Rattle.rnix_proof_rows.proofs.ReadsShapes.{AreErrorFreeRows}
 
--- each node of a forest has trees, and none is that of what is too deep
+-- each node of a forest contains a tree, and none is an error node of the nesting limit
 abbrev pub AreFilled : AnnotatedForest → Type 0
 AreFilled blank = Unit {0}
 AreFilled (token k t f) = AreFilled f
 AreFilled (branch k c f) = HasTree c × AreFilled c × AreFilled f
 AreFilled (fault n c f) = (is_last n ≡ false) × HasTree c × AreFilled c × AreFilled f
 
--- so it is in each error node of a forest, of which some may be empty
+-- this holds inside each error node of a forest, whose error nodes themselves may be empty
 abbrev pub AreFaultsFilled : AnnotatedForest → Type 0
 AreFaultsFilled blank = Unit {0}
 AreFaultsFilled (token k t f) = AreFaultsFilled f
@@ -39,12 +39,12 @@ row_tree : (ts : List Token) → is_some ts ≡ true → HasTree (row_of ts)
 row_tree [] h = true_is_not_false (sym h)
 row_tree (t ∷ ts) h = tt
 
--- what has tokens has a tree
+-- a forest with tokens has a tree
 tokens_tree : (f : AnnotatedForest) → is_some (tokens_in f) ≡ true → HasTree f
 tokens_tree blank h = true_is_not_false (sym h)
 tokens_tree _ h = tt
 
--- where each node has its row each has a tree
+-- if the children of each node are a row of its kind, each node contains a tree
 pub rows_filled : (f : AnnotatedForest) → AreErrorFreeRows f → AreFilled f
 rows_filled blank h = tt
 rows_filled (token k t f) h = rows_filled f h
@@ -55,7 +55,7 @@ rows_filled (branch k c f) h = (by c h.0, rows_filled c h.2, rows_filled f h.3)
     by _ w = tt
 rows_filled (fault n c f) h = absurd h
 
--- the kinds of a name and of a second name
+-- the kinds of a name and of the error node for a second name
 abbrev is_name_row : SyntaxKind → Bool
 is_name_row NODE_IDENT = true
 is_name_row NODE_ERROR = true
@@ -66,7 +66,7 @@ is_end (TextEnd · r) = true
 is_end (BoundAlready · r) = true
 is_end r = false
 
--- in a forest of these no operand stands, no text ends, no second name, and each node is a name
+-- each node that may be read at the row is a name
 abbrev is_name_alone : Row → Bool
 is_name_alone q = list_all (λ k. if has_row k && is_viable (after q k) then same_kind NODE_IDENT k else true) all_kinds
 
@@ -86,7 +86,7 @@ name_row_name : {i : SyntaxKind} (q : Row) (k : SyntaxKind) → IsKnown i q → 
 name_row_name q k n h r l =
     sym ((same_kind-decides NODE_IDENT k).0 (implied (λ k. has_row k && is_viable (after q k)) (same_kind NODE_IDENT) (name_row q n h).3 k (and_from _ _ r l)))
 
--- an error node there is a run
+-- an error node in such a row is a run
 name_row_fault : {i : SyntaxKind} (note : Note) (d : ℕ) (q r : Row) (ts vs : List Token) → IsKnown i q → is_name_row i ≡ true → IsWrong note d q r ts vs
     → is_viable r ≡ true
     → (is_last note ≡ false) × (is_some ts ≡ true)
@@ -96,7 +96,7 @@ name_row_fault Extra d q r ts vs k h w l = absurd (true_is_not_false (sym (ap is
 name_row_fault DoubleBind d q r ts vs k h w l = absurd w
 name_row_fault TooDeep d q r ts vs k h w l = absurd (true_is_not_false (sym w.1 ∙ (name_row q k h).1))
 
--- the row of a name, and that of a second name, have trees wherever they have nodes
+-- in such a row, each node contains a tree
 name_row_filled : {p : SyntaxKind} {d n : ℕ} {q q' : Row} {b : AnnotatedForest} {us : List Token} {f : AnnotatedForest} {es : List Fault}
     → Reads p d n q q' b us f es → IsKnown p q → is_viable q' ≡ true → is_name_row p ≡ true → AreFilled f
 name_row_filled end i l m = tt
@@ -111,7 +111,7 @@ name_row_filled {q = q} (inner {k = k} {c = c} o s y x j z t) i l m =
     let some : is_some (tokens_in c) ≡ true = row_some s (known_row k) (ap (λ k. begins_with_child (row k)) name) y.0 in
     (tokens_tree c some, name_row_filled s (known_row k) (end_viable _ y.0) (ap is_name_row name), name_row_filled t (known_after k i) l m)
 
--- so no error node of a forest that is read has an empty node
+-- no node inside an error node of a forest that is read is empty
 pub reads_filled : {p : SyntaxKind} {d n : ℕ} {q q' : Row} {b : AnnotatedForest} {us : List Token} {f : AnnotatedForest} {es : List Fault}
     → Reads p d n q q' b us f es → AreFaultsFilled f
 reads_filled end = tt
@@ -121,21 +121,21 @@ reads_filled (wrong note ts x o v s) = (row_filled ts, row_faults ts, reads_fill
 reads_filled (second s y x) = (name_row_filled s known_second (end_viable _ y.0) refl, reads_filled s, reads_filled x)
 reads_filled (inner o s y x j z t) = (reads_filled s, reads_filled t)
 
--- an error node begins with a token, or at least has some, unless it is what is too deep
+-- an error node contains tokens, unless it is that of the nesting limit; that of a stray item or of a run begins with one
 abbrev pub HasTokens : Note → AnnotatedForest → Type 0
 HasTokens Stray c = begins_with_token c ≡ true
 HasTokens (Unwanted until) c = begins_with_token c ≡ true
 HasTokens TooDeep c = Unit {0}
 HasTokens n c = is_some (tokens_in c) ≡ true
 
--- each error node of a forest has tokens, except for what is too deep, and nodes without a note are no error nodes
+-- each error node of a forest contains such tokens, and no other node has the kind of an error node
 abbrev pub HaveFaultTokens : AnnotatedForest → Type 0
 HaveFaultTokens blank = Unit {0}
 HaveFaultTokens (token k t f) = HaveFaultTokens f
 HaveFaultTokens (branch k c f) = (is_error_node k ≡ false) × HaveFaultTokens c × HaveFaultTokens f
 HaveFaultTokens (fault n c f) = HasTokens n c × HaveFaultTokens c × HaveFaultTokens f
 
--- of what an error node is
+-- an error node that is read contains its tokens
 wrong_some : (note : Note) (d : ℕ) (q r : Row) (ts vs : List Token) → IsWrong note d q r ts vs → HasTokens note (row_of ts)
 wrong_some TooDeep d q r ts vs w = tt
 wrong_some Stray d q r [] vs w = absurd (cc)
@@ -146,7 +146,7 @@ wrong_some Extra d q r [] vs w = absurd (true_is_not_false (sym w.0))
 wrong_some Extra d q r (t ∷ ts) vs w = refl
 wrong_some DoubleBind d q r ts vs w = absurd w
 
--- leaves alone
+-- leaves alone have no error nodes without tokens
 marked-row_of : (ts : List Token) → HaveFaultTokens (row_of ts)
 marked-row_of [] = tt
 marked-row_of (t ∷ ts) = marked-row_of ts
@@ -166,19 +166,19 @@ reads_fault_tokens (inner {k = k} o s y x j z t) = (
   reads_fault_tokens t,
 )
 
--- some items are some tokens
+-- if there are items, there are tokens
 some_tokens : (ts : List Token) → is_some (items ts) ≡ true → is_some ts ≡ true
 some_tokens [] h = h
 some_tokens (t ∷ ts) h = refl
 
--- what begins with a token without its trivia does so with them
+-- a forest that begins with a token when its trivia are removed begins with a token
 begins_without_trivia : (c : AnnotatedForest) → begins_with_token (without_trivia c) ≡ true → begins_with_token c ≡ true
 begins_without_trivia blank h = h
 begins_without_trivia (token k t f) h = refl
 begins_without_trivia (branch k c f) h = h
 begins_without_trivia (fault n c f) h = h
 
--- what has items has tokens
+-- an error node contains its tokens if it does without its trivia
 fault_tokens_of : (n : Note) (c : AnnotatedForest) → HasTokens n (without_trivia c) → HasTokens n c
 fault_tokens_of TooDeep c h = tt
 fault_tokens_of Stray c h = begins_without_trivia c h
@@ -190,7 +190,7 @@ fault_tokens_if : (x : Bool) (k : SyntaxKind) (t : Token) (f : AnnotatedForest) 
 fault_tokens_if true k t f h = h
 fault_tokens_if false k t f h = h
 
--- so it is of a forest with its trivia if it is of the forest without
+-- so do all error nodes of a forest
 pub fault_tokens_without_trivia : (f : AnnotatedForest) → HaveFaultTokens (without_trivia f) → HaveFaultTokens f
 fault_tokens_without_trivia blank h = tt
 fault_tokens_without_trivia (token k t f) h = fault_tokens_without_trivia f (fault_tokens_if (is_trivia t.kind) k t (without_trivia f) h)

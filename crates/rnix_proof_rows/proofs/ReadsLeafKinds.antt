@@ -10,7 +10,7 @@ use Rattle.rnix_proof_lemmas.{specs.Spelled.AreSpelled, proofs.{Basics.true_is_n
 use Rattle.rnix_proof_lemmas.proofs.{ReachableRows.is_viable, ViableRows.{end_viable, reads_viable, reads_row, past_ends}}
 use Rattle.rnix_green.specs.Equality.{same_kind, same_kind-decides}
 
--- a token's leaf has the kind of a token
+-- a leaf over a token has a token's kind
 pub remapped_is_token : (p k : SyntaxKind) → is_token k ≡ true → is_token (leaf_kind_as p k) ≡ true
 remapped_is_token NODE_IDENT TOKEN_OR h = refl
 remapped_is_token NODE_IDENT TOKEN_CUR_POS h = refl
@@ -28,7 +28,7 @@ run_leaf_kinds : (ts : List Token) → HaveLeafKinds NODE_ERROR (row_of ts)
 run_leaf_kinds [] = tt
 run_leaf_kinds (t ∷ ts) = (refl, run_leaf_kinds ts)
 
--- so each leaf in a forest that is read
+-- each leaf of a forest that is read has its token's kind, as its parent remaps it
 pub reads_leaf_kinds : {p : SyntaxKind} {d n : ℕ} {q q' : Row} {b : AnnotatedForest} {us : List Token} {f : AnnotatedForest} {es : List Fault}
     → Reads p d n q q' b us f es → HaveLeafKinds p f
 reads_leaf_kinds end = tt
@@ -38,7 +38,7 @@ reads_leaf_kinds (wrong note ts x w v s) = (run_leaf_kinds ts, reads_leaf_kinds 
 reads_leaf_kinds (second s y x) = (reads_leaf_kinds s, reads_leaf_kinds x)
 reads_leaf_kinds (inner v s y x w z t) = (reads_leaf_kinds s, reads_leaf_kinds t)
 
--- one child of a kind is there, where a row begins with it
+-- a row that begins with one child of a kind and is viable has that child
 one_child : (w : Bool) (r : Row) → is_viable (only w r) ≡ true → (w ≡ true) × (only w r ≡ r)
 one_child true r h = (refl, refl)
 one_child false r h = absurd (true_is_not_false (sym h))
@@ -46,7 +46,7 @@ one_child false r h = absurd (true_is_not_false (sym h))
 pub child_is : (kind k : SyntaxKind) (r : Row) → is_viable (after (Child kind · r) k) ≡ true → (kind ≡ k) × (after (Child kind · r) k ≡ r)
 child_is kind k r h = let w = one_child (same_kind kind k) r h in ((same_kind-decides kind k).0 w.0, w.1)
 
--- no error node is there
+-- there is no error node at such a position
 pub no_wrong : {A : Type 0} (note : Note) (d : ℕ) (kind : SyntaxKind) (q r : Row) (ts vs : List Token) → same_kind kind NODE_LITERAL ≡ false
     → IsWrong note d (Child kind · q) r ts vs → is_viable r ≡ true → A
 no_wrong Stray d kind q r ts vs e w l = absurd (true_is_not_false (sym l ∙ ap is_viable (sym w.3) ∙ ap (λ w. is_viable (only w q)) e))
@@ -74,7 +74,7 @@ name_single (inner {k = k} o s y x j z h) w e =
     let one = child_is TOKEN_IDENT k done (ap (λ q. is_viable (after q k)) (sym e) ∙ reads_viable h w) in
     absurd (true_is_not_false (sym (reads_row s y.0) ∙ ap has_row (sym one.0)))
 
--- an entry of a pattern begins with its name
+-- an entry of a pattern that is read begins with its name
 entry_begins : {d n : ℕ} {q q' r : Row} {b : AnnotatedForest} {us : List Token} {f : AnnotatedForest} {es : List Fault}
     → Reads NODE_PAT_ENTRY d n q q' b us f es → may_end q' ≡ true → q ≡ Child NODE_IDENT · r → AreSpelled (tokens_in f) → begins_with_node f ≡ true
 entry_begins end w e a = absurd (true_is_not_false (sym w ∙ ap may_end e))
@@ -87,7 +87,7 @@ entry_begins {d = d} {r = s} {us = us} (wrong {r = r} {f = f} note ts x o v h) w
 entry_begins (second s y h) w e a = absurd (cc)
 entry_begins (inner o s y x j z h) w e a = refl
 
--- so it is at each node of a kind
+-- so does each node of the kind of an entry
 single_node : (k : SyntaxKind) {d n : ℕ} {s : Row} {us : List Token} {c : AnnotatedForest} {es : List Fault} → Reads k d n (row k) s blank us c es
     → may_end s ≡ true → AreSpelled (tokens_in c) → HasSingleTokenName k c
 single_node k {d = d} {n = n} {s = s} {us = us} {c = c} {es = es} r w h = (λ e. name_single r (end_viable _ w) (ap row e), λ e. by e)
@@ -100,7 +100,7 @@ run_names : (ts : List Token) → AreNamesSingleTokens (row_of ts)
 run_names [] = tt
 run_names (t ∷ ts) = run_names ts
 
--- the names of a forest that is read are single tokens
+-- the names of a forest that is read contain only their token
 pub reads_single_names : {p : SyntaxKind} {d n : ℕ} {q q' : Row} {b : AnnotatedForest} {us : List Token} {f : AnnotatedForest} {es : List Fault}
     → Reads p d n q q' b us f es → AreSpelled (tokens_in f) → AreNamesSingleTokens f
 reads_single_names end h = tt

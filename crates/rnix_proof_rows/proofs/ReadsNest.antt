@@ -1,4 +1,4 @@
--- What is read nests no deeper than may be, error nodes aside, and what is nested too deep is inside as many counted positions as may be.
+-- What is read nests no deeper than the limit, error nodes aside, and what is nested too deep is inside exactly as many counted positions as the limit.
 use Rattle.std.{specs.List.list_all, proofs.Common.{◌≡◌, ℕ, suc, ◌+◌, ◌<◌, ◌≤◌, Bool, true, false, List, [], ◌∷◌, ◌++◌, refl, ap, sym, ◌∙◌, subst, arith, max}}
 use Rattle.{std.proofs.{Common.{◌&&◌, if◌then◌else◌}, lemmas.Bool.and_from}, rnix_kinds.specs.declared.kinds.SyntaxKind.SyntaxKind}
 use Rattle.rnix_kinds.{specs.declared.kinds.SyntaxKind.TheVariants.{NODE_PAT_ENTRY, NODE_ROOT}, proofs.AllKinds.{all_kinds, every, implied}}
@@ -11,16 +11,16 @@ use Rattle.rnix_proof_lemmas.proofs.ReachableRows.{IsKnown, is_viable, every_kno
 use Rattle.{rnix_proof_lemmas.proofs.ViableRows.{end_viable, later_viable, complete_has_row}, rnix_proof_rows.proofs.RowsWithoutAttrpath.begins_with_child}
 use Rattle.rnix_proof_rows.proofs.{RowsWithoutAttrpath.{missing_no_attrpath, HasNoNode, no_attrpath_row}, ReadsShapes.{AreErrorFreeRows, IsErrorFree}}
 
--- over what is nested too deep it is inside as many counted positions as may be
+-- an error node of the nesting limit is inside as many counted positions as the limit
 wrong_limited : (n : Note) (d : ℕ) (q r : Row) (ts us : List Token) → IsWrong n d q r ts us → IsLimited d n
 wrong_limited TooDeep d q r ts us h = h.2
 wrong_limited _ d q r ts us h = tt
 
--- a forest inside some counted positions nests no deeper than may be, and what is nested too deep is inside as many as may be
+-- a forest inside `d` counted positions nests within the limit, and what is nested too deep in it is inside as many as the limit
 abbrev Nests : ℕ → Row → AnnotatedForest → Type 0
 Nests d q f = (d + depth_of q f ≤ depth_limit) × AreLimited d q f
 
--- where no node stands, from one row as from another
+-- a forest without nodes does so at any row
 elsewhere : (d : ℕ) (q r : Row) (f : AnnotatedForest) → HasNoNode f → Nests d r f → Nests d q f
 elsewhere d q r blank n h = h
 elsewhere d q r (token k t f) n h = elsewhere d (after q k) (after r k) f n h
@@ -29,17 +29,17 @@ elsewhere d q r (fault note c f) n h =
     let w : Nests d (after_error q note) f = elsewhere d (after_error q note) (after_error r note) f n (h.0, h.1.1) in
     (w.0, (h.1.0, w.1))
 
--- one more place counts only where there is room
+-- another counted position stays within the limit if it is only entered where there is room
 room : (c : Bool) (d : ℕ) → (c ≡ true → d < depth_limit) → d ≤ depth_limit → (if c then suc d else d) ≤ depth_limit
 room true d h l = let m : d < depth_limit = h refl in omega (arith, m)
 room false d h l = l
 
--- a node and the forest after it
+-- a node and the trees after it are within the limit if both are
 both : (c : Bool) (d m n : ℕ) → (if c then suc d else d) + m ≤ depth_limit → d + n ≤ depth_limit → d + max (if c then suc m else m) n ≤ depth_limit
 both true d m n h l = omega (arith, h, l)
 both false d m n h l = omega (arith, h, l)
 
--- so it is with each forest that is read
+-- each forest that is read is within the limit
 reads_nest : {p : SyntaxKind} {d n : ℕ} {q q' : Row} {b : AnnotatedForest} {us : List Token} {f : AnnotatedForest} {es : List Fault}
     → Reads p d n q q' b us f es → IsKnown p q → is_viable q' ≡ true → d ≤ depth_limit → Nests d q f
 reads_nest {d = d} end i l h = (omega (arith, h), tt)
@@ -59,24 +59,24 @@ reads_nest {d = d} {q = q} (inner {k = k} {c = c} {f = f} o s y x j z t) i l h =
 root_nest : (f : AnnotatedForest) (es : List Fault) → ReadsRoot f es → Nests 0 (row NODE_ROOT) f
 root_nest f es r = reads_nest r (known_row NODE_ROOT) refl (omega arith)
 
--- what is read as a whole text nests no deeper than may be, error nodes aside
+-- a whole text nests within the limit, error nodes aside
 pub reads_shallow : (f : AnnotatedForest) (es : List Fault) → ReadsRoot f es → depth_of (row NODE_ROOT) f ≤ depth_limit
 reads_shallow f es r = let w : 0 + depth_of (row NODE_ROOT) f ≤ depth_limit = (root_nest f es r).0 in omega (arith, w)
 
--- what is nested too deep in it is inside as many counted positions as may be
+-- what is nested too deep in it is inside exactly as many counted positions as the limit
 pub reads_limited : (f : AnnotatedForest) (es : List Fault) → ReadsRoot f es → AreLimited 0 (row NODE_ROOT) f
 reads_limited f es r = (root_nest f es r).1
 
--- the row of an entry of a pattern as it begins, with the entry's name, which no operand is
+-- the row is that of an entry of a pattern before its name, which is no operand
 abbrev is_entry_start : SyntaxKind → Row → Bool
 is_entry_start i q = is_viable q && (is_formal i && begins_with_child q)
 
--- no child leads there
+-- after a child, no row is such a row
 entry_later : {i : SyntaxKind} (q : Row) (k : SyntaxKind) → IsKnown i q → is_entry_start i (after q k) ≡ false
 entry_later {i} q k n = not_if (is_entry_start i (after q k)) (every (λ k. if is_entry_start i (after q k) then false else true)
     (every_known (λ i q. list_all (λ k. if is_entry_start i (after q k) then false else true) all_kinds) (λ i. refl) refl i q n) k)
 
--- elsewhere what counts by the kinds of nodes counts along the row
+-- at all other positions, a node that counts by its kind also counts along the row
 abbrev goes_counted : SyntaxKind → Row → SyntaxKind → Bool
 goes_counted i q k = has_row i && (has_row k && (is_viable (after q k) && nests i k))
 
@@ -93,7 +93,7 @@ counted {i} q k n s u r l h = implied (goes_counted i q) (λ k. counts q)
     by true = refl
     by false = refl
 
--- a node and the forest after it, by the kinds and along the row
+-- a node and the trees after it nest by kinds at most as deep as along the row
 no_more : (v w : Bool) (m n k l : ℕ) → (v ≡ true → w ≡ true) → m ≤ k → n ≤ l → max (if v then suc m else m) n ≤ max (if w then suc k else k) l
 no_more true true m n k l i h j = omega (arith, h, j)
 no_more true false m n k l i h j = absurd (true_is_not_false (sym (i refl)))
@@ -105,7 +105,7 @@ abbrev begins_with_node : AnnotatedForest → Bool
 begins_with_node (branch k c f) = true
 begins_with_node f = false
 
--- all trees but entries with a name nest by their kind
+-- all trees but entries of patterns with a name nest by their kinds
 nest_other : (p k : SyntaxKind) (c : AnnotatedForest) (f : Forest) → (begins_with_node c && is_formal k) ≡ false
     → AreErrorFreeRows c → nest p (node k (forget c) f) ≡ max (if nests p k then suc (nest k (forget c)) else nest k (forget c)) (nest p f)
 nest_other p NODE_PAT_ENTRY blank f h r = refl
@@ -117,7 +117,7 @@ nest_other p _ c f h r = refl
 formal_is : (k : SyntaxKind) → is_formal k ≡ true → k ≡ NODE_PAT_ENTRY
 formal_is = only is_formal NODE_PAT_ENTRY refl
 
--- an entry with its name
+-- so does an entry with its name
 name_bounded : (w : Bool) (m n o k l : ℕ) → m ≤ k → n ≤ l → max m n ≤ max (if w then suc (max o k) else max o k) l
 name_bounded true m n o k l h j = omega (arith, h, j)
 name_bounded false m n o k l h j = omega (arith, h, j)
@@ -130,7 +130,7 @@ entry_bounded p q k j d e f n behind later =
     (name_bounded (counts q) (nest NODE_PAT_ENTRY (forget e)) (nest p (forget f)) _
     (depth_of (after (row NODE_PAT_ENTRY) j) e) (depth_of (after q NODE_PAT_ENTRY) f)) behind later
 
--- a node in a forest, by its kind and along the row
+-- a node nests by its kind at most as deep as along the row
 node_bounded : (p : SyntaxKind) (q : Row) (k : SyntaxKind) (c f : AnnotatedForest) → (begins_with_node c && is_formal k) ≡ false → AreErrorFreeRows c
     → (nests p k ≡ true → counts q ≡ true) → nest k (forget c) ≤ depth_of (row k) c → nest p (forget f) ≤ depth_of (after q k) f
     → nest p (forget (branch k c f)) ≤ depth_of q (branch k c f)
@@ -138,7 +138,7 @@ node_bounded p q k c f h r w inside later =
     subst (λ m. m ≤ depth_of q (branch k c f)) (sym (nest_other p k c (forget f) h r))
     (no_more (nests p k) (counts q) (nest k (forget c)) (nest p (forget f)) (depth_of (row k) c) (depth_of (after q k) f) w inside later)
 
--- so a forest of nodes that have theirs nests by the kinds of nodes no deeper than along its row
+-- a forest whose nodes have their rows nests by kinds at most as deep as along its row
 bounded : (p : SyntaxKind) (q : Row) (f : AnnotatedForest) → IsKnown p q → has_row p ≡ true → is_entry_start p q ≡ false → AreErrorFreeRows f
     → may_end (after_all q (kinds_of (forget f))) ≡ true → nest p (forget f) ≤ depth_of q f
 bounded p q blank i u s r w = omega arith
@@ -171,7 +171,7 @@ bounded p q (branch k (branch j d e) f) i u s r w =
         start_other false e = refl
     by true v c inside behind later = entry_bounded p q k j d e f (formal_is k v) behind later
 
--- so without error nodes no more expressions that count are inside one another than may be
+-- without error nodes, a whole text nests no more counted expressions than the limit allows
 pub reads_nested : (f : AnnotatedForest) (es : List Fault) → ReadsRoot f es → IsErrorFree f → nest NODE_ROOT (forget f) ≤ depth_limit
 reads_nested f es r h =
     let most : nest NODE_ROOT (forget f) ≤ depth_of (row NODE_ROOT) f = bounded NODE_ROOT (row NODE_ROOT) f (known_row NODE_ROOT) refl refl h.nodes h.root in

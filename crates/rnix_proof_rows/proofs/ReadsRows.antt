@@ -14,7 +14,7 @@ use Rattle.rnix_proof_rows.proofs.{ReadsFaults.{neither_repeats, reads_errors}, 
 use Rattle.rnix_proof_rows.proofs.RepairedRows.{Simulates, simulates_self, simulates_same, simulates_both, second_simulates, after_repair, after_repair_all}
 use Rattle.rnix_proof_rows.proofs.RepairedRows.{known_after_repair, needs_token_after_repair, wrong_simulates}
 
--- what holds no token pays none
+-- what contains no token leaves a row that needs a token as it is
 pub needs_token_rest : {p i : SyntaxKind} {d n : ℕ} {q q' : Row} {b : AnnotatedForest} {us : List Token} {f : AnnotatedForest} {es : List Fault}
     → Reads p d n q q' b us f es → tokens_in f ≡ [] → (q0 : Row) → IsKnown i q0 → needs_token q0 ≡ true
     → needs_token (after_all q0 (kinds_of (repaired f))) ≡ true
@@ -29,7 +29,7 @@ needs_token_rest (second {c = c} {f = f} s y h) n q0 k o = needs_token_rest h (n
 needs_token_rest (inner {k = j} {c = c} {f = f} w s y x v z h) n q0 k o =
     needs_token_rest h (none_right (tokens_in c) (tokens_in f) n) (after q0 j) (known_after j k) (needs_token_goes q0 j k o (reads_row s y.0))
 
--- nothing but a token may follow: nothing is missing there, no operand counts, no second name may be there, and no node
+-- only a token may follow: no part is missing there, no operand counts, no second name and no node may be read
 abbrev is_lost : Option (Fault × Row) → Bool
 is_lost None = false
 is_lost (Some w) = true
@@ -61,7 +61,7 @@ final q h =
       node = λ k e. not_if (is_viable (after q k)) (implied has_row (λ k. not (is_viable (after q k))) c.1 k e);
     }
 
--- so a forest without tokens is empty there, when it is repaired
+-- a forest without tokens is empty there once it is repaired
 final_rest : {p : SyntaxKind} {d n : ℕ} {q q' : Row} {b : AnnotatedForest} {us : List Token} {f : AnnotatedForest} {es : List Fault}
     → Reads p d n q q' b us f es → IsKnown p q → is_viable q' ≡ true → IsFinal q → tokens_in f ≡ [] → kinds_of (repaired f) ≡ []
 final_rest end i l m n = refl
@@ -74,7 +74,7 @@ final_rest {d = d} {q = q} {us = us} (wrong {r = r} {f = f} note ts x w v h) i l
 final_rest (second s y h) i l m n = absurd (true_is_not_false m.bound)
 final_rest (inner {k = k} w s y x v z h) i l m n = absurd (true_is_not_false (sym (reads_viable h l) ∙ m.node k (reads_row s y.0)))
 
--- where something is missing the row may not end, and where no token is owed either nothing but a token may follow
+-- a row with a missing part may not end, and only a token may follow, unless a token is needed
 abbrev is_lost_well : Row → Option (Fault × Row) → Bool
 is_lost_well q None = true
 is_lost_well q (Some w) = not (may_end q) && (needs_token q || is_final w.1)
@@ -82,7 +82,7 @@ is_lost_well q (Some w) = not (may_end q) && (needs_token q || is_final w.1)
 lost_well : {i : SyntaxKind} {q r : Row} {e : Fault} → IsKnown i q → missing q ≡ Some (e, r) → (not (may_end q) && (needs_token q || is_final r)) ≡ true
 lost_well {i} {q} k m = sym (ap (is_lost_well q) m) ∙ every_known (λ i q. is_lost_well q (missing q)) (λ i. refl) refl i q k
 
--- a row with a part that is missing may not end, however it is repaired
+-- a row with a missing part may not end, even once it is repaired
 lost_by : {p : SyntaxKind} {d n : ℕ} {q r q0 q' : Row} {b : AnnotatedForest} {us : List Token} {f : AnnotatedForest} {es : List Fault} {e : Fault}
     → IsKnown p q0 → IsKnown p q → Simulates q0 q → missing q ≡ Some (e, r) → tokens_in f ≡ [] → Reads p d n r q' b us f es → is_viable q' ≡ true
     → may_end (after_all q0 (kinds_of (repaired f))) ≡ false
@@ -93,17 +93,17 @@ lost_by {q = q} {r = r} {q0 = q0} {f = f} k0 k m l n s w = by (needs_token q) re
     by false o h =
         ap (λ ks. may_end (after_all q0 ks)) (final_rest s (known_missing l k) w (final r h.1) n) ∙ m.ends ∙ not_if (may_end q) h.0
 
--- nodes that are incomplete, and errors of the end; in a pattern the last name may miss an end that the node around the pattern misses too
+-- how many nodes are incomplete and how many errors are at the end; in a pattern, the last name and the node around the pattern may share one
 pub record Counts (m n : ℕ) (OperandFrame : Type 0) : Type 0 where
   pub few : m ≤ n
   pub none : m ≡ 0 → (n ≡ 0) ⊎ OperandFrame
 
--- the errors of the end in two lists
+-- the errors at the end in two joined lists are those of both
 pub ended_count-++ : (es fs : List Fault) → ended_count (es ++ fs) ≡ ended_count es + ended_count fs
 ended_count-++ [] fs = omega arith
 ended_count-++ (e ∷ es) fs = let h : ended_count (es ++ fs) ≡ ended_count es + ended_count fs = ended_count-++ es fs in omega arith
 
--- what is missing is one of them
+-- the error for a missing part is one of them
 lost_counted : (e : Fault) (es : List Fault) → is_ended e ≡ true → ended_count (e ∷ es) ≡ 1 + ended_count es
 lost_counted e es h = ap (λ x. (if x then 1 else 0) + ended_count es) h
 
@@ -112,7 +112,7 @@ incomplete_repair : (n : Note) (f : Forest) → incomplete (repair n f) ≡ inco
 incomplete_repair Stray f = omega arith
 incomplete_repair _ f = first_of (omega arith, assumption, cc)
 
--- no error of the end, or one
+-- a list has no errors at the end of the text, or some
 pub ended_or : (es : List Fault) → (ended_count es ≡ 0) ⊎ HasEnded es
 ended_or [] = inl refl
 ended_or (e ∷ es) = by_first (is_ended e) refl (ended_or es)
@@ -121,19 +121,19 @@ ended_or (e ∷ es) = by_first (is_ended e) refl (ended_or es)
     by_first true h w = inr (inl h)
     by_first false h w = elim w [ inl n ↦ inl (ap (λ x. (if x then 1 else 0) + ended_count es) h ∙ omega (arith, n)) | inr n ↦ inr (inr n) ]
 
--- errors that are neither of the end nor of a misplaced token are none of them
+-- errors that are neither at the end nor about a misplaced token are none of them
 neither_count : (es : List Fault) → NeitherEndNorMisplaced es → ended_count es ≡ 0
 neither_count es h = elim (ended_or es) [ inl n ↦ n | inr n ↦ absurd (h.ended n) ]
 
--- how far a repaired row is from complete
+-- one more, if a repaired row may not end
 abbrev pub half : Bool → ℕ
 half w = if w then 0 else 1
 
--- equal numbers
+-- equal counts are related in the same way
 same_counts : {m m' n n' : ℕ} {L : Type 0} → m ≡ m' → n ≡ n' → Counts m n L → Counts m' n' L
 same_counts {m = m} {m' = m'} {n = n} {n' = n'} {L = L} e h c = subst (λ (x : ℕ). Counts x n' L) e (subst (λ (x : ℕ). Counts m x L) h c)
 
--- the nodes that are incomplete are no more than the errors of the end, and are some where these are
+-- there are at most as many incomplete nodes as errors at the end, and some if there are such errors
 pub reads_counts : {p : SyntaxKind} {d n : ℕ} {q q' : Row} {b : AnnotatedForest} {us : List Token} {f : AnnotatedForest} {es : List Fault} (q0 : Row)
     → Reads p d n q q' b us f es → may_end q' ≡ true → IsKnown p q0 → IsKnown p q → Simulates q0 q → AreErrorNodes p f
     → Counts (half (may_end (after_all q0 (kinds_of (repaired f)))) + incomplete (repaired f)) (ended_count es) ((p ≡ NODE_PATTERN) × (us ≡ []))

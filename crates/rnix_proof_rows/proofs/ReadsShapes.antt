@@ -12,7 +12,7 @@ use Rattle.rnix_proof_lemmas.proofs.{EachKind.each_kind, EntryNames.both_true, R
 use Rattle.{rnix_proof_lemmas.proofs.ViableRows.{end_viable, reads_viable}, rnix_proof_rows.proofs.NamedRows.{are_named, is_end_or}}
 use Rattle.rnix_proof_rows.proofs.{ErrorNodeRows.root_error_nodes, ReadsFaults.reads_errors, ReadsRows.{half, reads_counts}, RepairedRows.simulates_self}
 
--- after the first child
+-- no longer at the first child
 abbrev pub not_first : Bool → Bool
 not_first first = if first then false else true
 
@@ -20,12 +20,12 @@ not_first first = if first then false else true
 abbrev Agrees : Bool → Row → Type 0
 Agrees first q = is_viable (after q NODE_PAT_BIND) ≡ true → is_end_or q ≡ not_first first
 
--- so it is at the beginning of a row
+-- this holds at the beginning of each row
 agrees_start : (k : SyntaxKind) → Agrees true (row k)
 agrees_start k = λ l. where_one (is_viable (after (row k) NODE_PAT_BIND)) l
     (each_kind (λ k. Where (is_viable (after (row k) NODE_PAT_BIND)) (is_end_or (row k) ≡ false)) (assumption) k)
 
--- so it is after a child
+-- this holds after each child
 abbrev binds_behind : Row → SyntaxKind → Bool
 binds_behind q k = if is_viable (after (after q k) NODE_PAT_BIND) then is_end_or (after q k) else true
 
@@ -33,13 +33,13 @@ agrees_later : {i : SyntaxKind} (q : Row) (k : SyntaxKind) → IsKnown i q → A
 agrees_later {i} q k n = λ l. sym (ap (λ w. if w then is_end_or (after q k) else true) l)
     ∙ every (binds_behind q) (every_known (λ i q. list_all (binds_behind q) all_kinds) (λ i. refl) refl i q n) k
 
--- the name of a pattern, trivia aside, has the form for its place: that of the first child, or the other
+-- the bound name of a pattern, trivia aside, has the form for its place: `a @` as the first child, otherwise `@ a`
 abbrev pub is_item_bind_formed : Bool → SyntaxKind → AnnotatedForest → Bool
 is_item_bind_formed true NODE_PAT_BIND c = if begins_with_token c then false else true
 is_item_bind_formed false NODE_PAT_BIND c = begins_with_token c
 is_item_bind_formed first k c = true
 
--- the name of a pattern has the form that what is left of the row requires
+-- the bound name of a pattern has the form that the rest of the row requires
 bound_formed : (first : Bool) (q : Row) (c : AnnotatedForest) → is_end_or q ≡ not_first first → is_bind_at q c ≡ true
     → is_item_bind_formed first NODE_PAT_BIND c ≡ true
 bound_formed true (EndOr kind · r) c a h = absurd (true_is_not_false a)
@@ -47,14 +47,14 @@ bound_formed false (EndOr kind · r) c a h = h
 bound_formed true _ c a h = h
 bound_formed false _ c a h = absurd (true_is_not_false (sym a))
 
--- so it has the form for its place among the children
+-- so the bound name has the form for its place among the children
 formed_item : (first : Bool) (q : Row) (k : SyntaxKind) (c : AnnotatedForest) → Agrees first q → is_viable (after q k) ≡ true → is_name_allowed q k c ≡ true
     → is_item_bind_formed first k c ≡ true
 formed_item first q NODE_PAT_BIND c a l h = bound_formed first q c (a l) h
 formed_item true q _ c a l h = refl
 formed_item false q _ c a l h = refl
 
--- the names of patterns have their forms in a forest without trivia
+-- the bound names of a forest without trivia have their forms
 abbrev pub are_item_binds_formed : Bool → AnnotatedForest → Bool
 are_item_binds_formed first blank = true
 are_item_binds_formed first (token k t f) = are_item_binds_formed false f
@@ -68,7 +68,7 @@ AreErrorFreeRows (token k t f) = AreErrorFreeRows f
 AreErrorFreeRows (branch k c f) = (is_row k (kinds_of (forget c)) ≡ true) × (are_item_binds_formed true c ≡ true) × AreErrorFreeRows c × AreErrorFreeRows f
 AreErrorFreeRows (fault n c f) = ⊥
 
--- a forest of such nodes, from what is left of its row to what is left after them
+-- a forest of such nodes leads from one rest of its row to another
 pub record IsErrorFreeRow (first : Bool) (q q' : Row) (f : AnnotatedForest) : Type 0 where
   pub nodes : AreErrorFreeRows f
   pub binds : are_item_binds_formed first f ≡ true
@@ -96,7 +96,7 @@ reads_rows {q = q} {b = b} first (inner {k = k} {c = c} {f = f} {ds = ds} {es = 
       reaches = w.reaches;
     }
 
--- if no node is an error node, nothing is repaired
+-- without error nodes there is nothing to repair
 pub repaired_none : (f : AnnotatedForest) → AreErrorFreeRows f → repaired f ≡ forget f
 repaired_none blank r = refl
 repaired_none (token k t f) r = ap (leaf_in k t.text) (repaired_none f r)
@@ -113,7 +113,7 @@ incomplete_none (branch k c f) r =
     omega (arith, one, below, more)
 incomplete_none _ r = first_of (omega arith, assumption, cc)
 
--- without errors at the end of the text and without others there are none
+-- without errors at the end of the text and without others there are no errors
 none_in_all : (es : List Fault) → ended_count es ≡ 0 → others es ≡ [] → es ≡ []
 none_in_all [] h k = refl
 none_in_all (e ∷ es) h k = by_first (is_ended e) refl
@@ -132,13 +132,13 @@ rows_read {q = q} {f = f} {es = es} s w i not o r h n =
     let counts = reads_counts q s w i i (simulates_self q) o in
     none_in_all es (elim (counts.none (omega (arith, row, all))) [ inl e ↦ e | inr e ↦ absurd (not e.0) ]) ((reads_errors s i).reports ∙ n)
 
--- a whole text without trivia has no error exactly if the children of the root and of each node are rows of their kinds, and nothing is reported
+-- a whole text without trivia has complete rows: the children of the root and of each node are rows of their kinds, and nothing is reported
 pub record IsErrorFree (f : AnnotatedForest) : Type 0 where
   pub root : is_row NODE_ROOT (kinds_of (forget f)) ≡ true
   pub nodes : AreErrorFreeRows f
   pub silent : reports f ≡ []
 
--- a whole text has no error exactly if this holds
+-- a whole text has no errors exactly if this holds
 pub root_rows : {f : AnnotatedForest} {es : List Fault} → ReadsRoot f es → (es ≡ []) ↔ IsErrorFree f
 root_rows {f = f} {es = es} s = (there, λ w. rows_read s refl (known_row NODE_ROOT) (λ e. cc) (root_error_nodes s) w.nodes w.root w.silent)
   where

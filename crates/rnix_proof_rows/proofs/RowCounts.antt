@@ -1,4 +1,4 @@
--- What every row of a kind has, by computation along the rows.
+-- What every row of a kind contains, by computation along the rows.
 use Rattle.std.{specs.List.{filter, find, list_all}, proofs.Common.{◌≡◌, ℕ, zero, suc, ◌≤◌, Bool, true, false, cond, List, [], ◌∷◌, length, Some}}
 use Rattle.std.proofs.{Common.{refl, ap, sym, ◌∙◌, arith, ◌&&◌, if◌then◌else◌, is_some, slice_get}, lemmas.Bool.and_parts}
 use Rattle.rnix_kinds.{specs.declared.kinds.SyntaxKind.{SyntaxKind, TheVariants.NODE_ATTRPATH}, proofs.AllKinds.{all_kinds, every, implied}}
@@ -11,7 +11,7 @@ use Rattle.rnix_proof_lemmas.proofs.{Basics.true_is_not_false, ReachableRows.is_
 abbrev pub Test : Type 0
 Test = SyntaxKind → Bool
 
--- every row passes the part
+-- every row gets beyond the part
 abbrev passes : Part → Bool
 passes (Child kind) = true
 passes Atom = true
@@ -25,7 +25,7 @@ passes (Wanted kind) = true
 passes Attrpath = true
 passes part = false
 
--- the children that lead past it
+-- the kinds of children that lead beyond the part
 abbrev leads : Part → Test
 leads (Child kind) = same_kind kind
 leads Atom = is_atom
@@ -38,13 +38,13 @@ leads (Entries closer) = same_kind closer
 leads (Wanted kind) = same_kind kind
 leads part = same_kind NODE_ATTRPATH
 
--- and those before which it may be again
+-- the kinds of children after which the part is still next
 abbrev stays : Part → Test
 stays (Many n closer) = fits n
 stays (Entries closer) = is_entry
 stays part = λ k. false
 
--- a child leads past a part, or leaves it
+-- a child leads beyond a part or does not fit
 single : (w : Bool) (q r : Row) → only w r ≡ (if w then r else only false q)
 single true q r = refl
 single false q r = refl
@@ -66,20 +66,20 @@ no_end : (p : Part) (r : Row) → passes p ≡ true → may_end (p · r) ≡ fal
 no_end Atom r h = refl
 no_end _ r h = cc
 
--- all that lead past it are of the set
+-- all kinds that lead beyond the part are in the set
 abbrev is_sure : Test → Part → Bool
 is_sure test p = list_all (λ k. if leads p k then test k else true) all_kinds
 
--- an operator
+-- the part is an operator
 abbrev is_binary : Part → Bool
 is_binary Binary = true
 is_binary part = false
 
--- so many are left to come after each child of a row, by what is said of the rows after it
+-- after each child of a row, the rows after it have so many children of the set
 abbrev each_step : Test → (ℕ → Row → Bool) → ℕ → Row → Bool
 each_step test more n q = list_all (λ k. if is_viable (after q k) then more (if test k then n else suc n) (after q k) else true) all_kinds
 
--- each row from here on has so many children of a set, as so many steps along it show
+-- each row from here on has so many children of a set, as computed along so many steps
 abbrev pub has : Test → ℕ → ℕ → Row → Bool
 has test zero m q = true
 has test (suc n) zero q = false
@@ -90,7 +90,7 @@ has test (suc n) (suc m) (p · r) =
     else is_binary p && each_step test (λ n q. has test n m q) n (p · r)
 has test (suc n) (suc m) (r or s) = each_step test (λ n q. has test n m q) n (r or s)
 
--- one more child
+-- one more child leaves enough of the set
 grown : (test : Test) (n : ℕ) (k : SyntaxKind) (ks : List SyntaxKind) → n ≤ length (filter test ks) → n ≤ length (filter test (k ∷ ks))
 grown test n k ks h = by (test k)
   where
@@ -98,7 +98,7 @@ grown test n k ks h = by (test k)
     by true = omega (arith, h)
     by false = h
 
--- of the set, if it is wanted
+-- one more child of the set leaves one fewer to come
 counted : (test : Test) (v : Bool) (n : ℕ) (k : SyntaxKind) (ks : List SyntaxKind) → (v ≡ true → test k ≡ true)
     → (if v then n else suc n) ≤ length (filter test ks)
     → suc n ≤ length (filter test (k ∷ ks))
@@ -107,7 +107,7 @@ counted test true n k ks t h =
     let same : length (filter test (k ∷ ks)) ≡ suc (length (filter test ks)) = ap (λ w. length (cond w (k ∷ filter test ks) (filter test ks))) (t refl) in
     omega (arith, same, h)
 
--- a row that passes a part has what is after it
+-- if every row gets beyond a part, what holds of the rest holds of the row
 behind : (test : Test) (n : ℕ) (p : Part) (r : Row) (ks : List SyntaxKind) → passes p ≡ true → may_end (after_all (p · r) ks) ≡ true
     → ((ks : List SyntaxKind) → may_end (after_all r ks) ≡ true → (if is_sure test p then n else suc n) ≤ length (filter test ks))
     → suc n ≤ length (filter test ks)
@@ -123,7 +123,7 @@ behind test n p r (k ∷ ks) s w ih =
     by false true e w more = grown test (suc n) k ks (more w ih)
     by false false e w more = absurd (true_is_not_false (sym w ∙ ap may_end (nowhere ks)))
 
--- so has each row whose children are looked at one by one
+-- this holds for each row whose children are examined one by one
 stepped : (test : Test) (n m : ℕ) (q : Row) (ks : List SyntaxKind) → each_step test (λ n q. has test n m q) n q ≡ true
     → may_end q ≡ false → may_end (after_all q ks) ≡ true
     → ((n : ℕ) (q : Row) (ks : List SyntaxKind) → has test n m q ≡ true → may_end (after_all q ks) ≡ true → n ≤ length (filter test ks))
@@ -136,7 +136,7 @@ stepped test n m q (k ∷ ks) h e w ih =
     (sym (ap (λ v. if v then has test remaining m (after q k) else true) (later_viable (after q k) ks w))
     ∙ every (λ k. if is_viable (after q k) then has test (if test k then n else suc n) m (after q k) else true) h k) w)
 
--- what is computed is so
+-- what is computed is true of each row
 enough : (test : Test) (n m : ℕ) (q : Row) (ks : List SyntaxKind) → has test n m q ≡ true → may_end (after_all q ks) ≡ true → n ≤ length (filter test ks)
 enough test zero m q ks h w = omega arith
 enough test (suc n) zero q ks h w = absurd (true_is_not_false (sym h))
@@ -158,7 +158,7 @@ enough test (suc n) (suc m) (p · r) ks h w = by (passes p) refl h (λ n q ks h 
         stepped test n m (p · r) ks both.1 (binary p both.0) w ih
 enough test (suc n) (suc m) (r or s) ks h w = stepped test n m (r or s) ks h refl w (λ n q ks h w. enough test n m q ks h w)
 
--- a number of steps in which each row passes all that it passes
+-- a number of steps that is enough for every row
 abbrev steps : ℕ
 steps = 7
 
@@ -166,7 +166,7 @@ steps = 7
 abbrev pub row_has : Test → ℕ → SyntaxKind → Bool
 row_has test n kind = has test n steps (row kind)
 
--- the first of a set is there
+-- if a list has a member of the set, it has a first one
 first_some : (test : Test) (ks : List SyntaxKind) → 1 ≤ length (filter test ks) → is_some (find test ks) ≡ true
 first_some test [] h = absurd (omega (arith, h))
 first_some test (k ∷ ks) h = by (test k) h (first_some test ks)
@@ -179,7 +179,7 @@ first_some test (k ∷ ks) h = by (test k) h (first_some test ks)
 pub row_first : (kind : SyntaxKind) (ks : List SyntaxKind) (test : Test) → row_has test 1 kind ≡ true → is_row kind ks ≡ true → is_some (find test ks) ≡ true
 row_first kind ks test h r = first_some test ks (enough test 1 steps (row kind) ks h r)
 
--- and that of a number
+-- a list of more than `n` members has the member number `n`
 nth_some : {A : Type 0} (xs : List A) (n : ℕ) → suc n ≤ length xs → is_some (slice_get xs n) ≡ true
 nth_some [] n h = absurd (omega (arith, h))
 nth_some (x ∷ xs) zero h = refl
@@ -189,7 +189,7 @@ pub row_nth : (kind : SyntaxKind) (ks : List SyntaxKind) (test : Test) (n : ℕ)
     → is_some (slice_get (filter test ks) n) ≡ true
 row_nth kind ks test n h r = nth_some (filter test ks) n (enough test (suc n) steps (row kind) ks h r)
 
--- what holds of all rows from a state on that have fewer children than a number, if all have
+-- a test passes for all rows from here on, as far as rows are shorter than the number of steps
 abbrev pub all_rows : ℕ → Row → (List SyntaxKind → Bool) → Bool
 all_rows zero q test = false
 all_rows (suc m) q test =
@@ -205,7 +205,7 @@ each_row (suc m) q test h (k ∷ ks) w =
     ∙ every (λ k. if is_viable (after q k) then all_rows m (after q k) (λ ks. test (k ∷ ks)) else true)
     (and_parts (if may_end q then test [] else true) _ h).1 k) ks w
 
--- so it is with each row of a kind
+-- a test that passes for all rows of a kind is true of each
 pub row_is : (kind : SyntaxKind) (test : List SyntaxKind → Bool) → all_rows steps (row kind) test ≡ true → (ks : List SyntaxKind) → is_row kind ks ≡ true
     → test ks ≡ true
 row_is kind test h ks r = each_row steps (row kind) test h ks r

@@ -1,10 +1,10 @@
--- Forests in a tree: where their elements are in it, and where their text is.
+-- Forests in a tree: the numbers of their elements, and the place of their text.
 use Rattle.std.proofs.Common.{◌≡◌, ℕ, suc, ◌+◌, ◌-◌, ◌<◌, ◌≤◌, List, [], ◌++◌, length, take, drop, Option, Some, None, refl, ap, sym, ◌∙◌, arith, length-append}
 use Rattle.std.proofs.{Common.{append_assoc, append-nil}, lemmas.List.{take_at, drop_at}}
 use Rattle.{rnix_kinds.specs.declared.kinds.SyntaxKind.SyntaxKind, rnix_green.specs.{Forest.{Forest, leaf, node, text_of, element_count}, Tree.{Tree, Item}}}
 use Rattle.rnix_green.{specs.Tree.{items_of, forest_of, item, text_at}, proofs.{NestLemmas.{at, inside, beyond, behind}, PieceLemmas.length-items_from}}
 
--- the elements from the number n on are those of a forest, and the text from the offset s on is theirs
+-- the elements from number `n` on are those of a forest, and the text from offset `s` on is its text
 pub record IsRowIn (t : Tree) (n s : ℕ) (p : Option ℕ) (f : Forest) : Type 0 where
   pub there : n + element_count f ≤ length (items_of t)
   pub items : (i : ℕ) → i < element_count f → item t (n + i) ≡ at n s p f i
@@ -13,7 +13,7 @@ pub record IsRowIn (t : Tree) (n s : ℕ) (p : Option ℕ) (f : Forest) : Type 0
   pub text : text_of (forest_of t) ≡ before ++ (text_of f ++ after)
   pub offset : length before ≡ s
 
--- a tree is a forest of its own
+-- a tree's trees are a forest in it
 pub row_of_tree : (t : Tree) → IsRowIn t 0 0 None (forest_of t)
 row_of_tree t = record {
   there = omega (arith, length-items_from 0 0 None (forest_of t));
@@ -24,11 +24,11 @@ row_of_tree t = record {
   offset = refl;
 }
 
--- the first element of a forest
+-- the first element of a forest has the forest's first number
 pub row_first : (t : Tree) (n s : ℕ) (p : Option ℕ) (f : Forest) → IsRowIn t n s p f → 0 < element_count f → item t n ≡ at n s p f 0
 row_first t n s p f h l = (let e : n + 0 ≡ n = omega arith in sym (ap (item t) e) ∙ h.items 0 l)
 
--- the forest after a leaf
+-- the trees after a leaf are in the tree after it
 pub row_behind_leaf : (t : Tree) (n s : ℕ) (p : Option ℕ) (k : SyntaxKind) (x : List ℕ) (f : Forest) → IsRowIn t n s p (leaf k x f)
     → IsRowIn t (n + 1) (s + length x) p f
 row_behind_leaf t n s p k x f h = record {
@@ -40,7 +40,7 @@ row_behind_leaf t n s p k x f h = record {
   offset = omega (arith, h.offset, length-append h.before x);
 }
 
--- the forest inside a node
+-- the children of a node are in the tree after it
 pub row_inside : (t : Tree) (n s : ℕ) (p : Option ℕ) (k : SyntaxKind) (c f : Forest) → IsRowIn t n s p (node k c f) → IsRowIn t (n + 1) s (Some n) c
 row_inside t n s p k c f h = record {
   there = omega (arith, h.there);
@@ -56,7 +56,7 @@ row_inside t n s p k c f h = record {
   offset = h.offset;
 }
 
--- the forest after a node
+-- the trees after a node are in the tree after its children
 pub row_behind_node : (t : Tree) (n s : ℕ) (p : Option ℕ) (k : SyntaxKind) (c f : Forest) → IsRowIn t n s p (node k c f)
     → IsRowIn t (n + 1 + element_count c) (s + length (text_of c)) p f
 row_behind_node t n s p k c f h = record {
@@ -76,7 +76,7 @@ row_behind_node t n s p k c f h = record {
   offset = omega (arith, h.offset, length-append h.before (text_of c));
 }
 
--- a node has the text of its children
+-- the text of a node is that of its children
 pub row_text : (t : Tree) (n s : ℕ) (p : Option ℕ) (k : SyntaxKind) (c f : Forest) → IsRowIn t n s p (node k c f)
     → text_at record { tree = t; number = n } ≡ text_of c
 row_text t n s p k c f h =

@@ -1,4 +1,4 @@
--- The shape of a complete tree, with its trivia; a tree reports what its items report, where no error node begins or ends with trivia.
+-- The shape of a complete tree with its trivia. A tree reports what its items report, if no error node begins or ends with trivia.
 use Rattle.std.proofs.Common.{◌≡◌, ◌↔◌, ℕ, Bool, true, false, List, [], ◌∷◌, ◌++◌, Option, Some, None, refl, ap, sym, ◌∙◌, subst, if◌then◌else◌, ◌&&◌, bytes_eq}
 use Rattle.rnix_kinds.specs.declared.kinds.SyntaxKind.{SyntaxKind, TheVariants.{NODE_ROOT, NODE_ERROR, NODE_IDENT, NODE_PAT_BIND, NODE_PAT_ENTRY}}
 use Rattle.{rnix_kinds.specs.SyntaxKind.is_trivia, rnix_green.specs.Forest.Forest, rnix_grammar.specs.{Fault.{Fault, duplicated_args}, AnnotatedForest.Token}}
@@ -17,13 +17,13 @@ use Rattle.rnix_proof_rows.proofs.ReadsShapes.{are_item_binds_formed, AreErrorFr
 leaf_trivia : (p k : SyntaxKind) (t : Token) → k ≡ leaf_kind p t → is_trivia t.kind ≡ is_trivia k
 leaf_trivia p k t e = sym (ap is_trivia e ∙ remapped_is_trivia p t.kind)
 
--- what depends on the first tree of a forest that is no trivia, or by all of these
+-- a function of a forest without trivia, by its first leaf: it passes over trivia and uses an item
 by_leaf : {A : Type 0} (x : Bool) (k : SyntaxKind) (t : Token) (f : AnnotatedForest) (h : AnnotatedForest → A) (a b : A) → h f ≡ a → h (token k t f) ≡ b
     → h (token_if x k t f) ≡ (if x then a else b)
 by_leaf true k t f h a b e g = e
 by_leaf false k t f h a b e g = g
 
--- the trees of a forest that are no trivia
+-- the kinds of a forest without trivia are those of its trees that are no trivia
 pub without_trivia_kinds : (p : SyntaxKind) (f : AnnotatedForest) → HaveLeafKinds p f → kinds_of (forget (without_trivia f)) ≡ item_kinds (forget f)
 without_trivia_kinds p blank h = refl
 without_trivia_kinds p (token k t f) h =
@@ -33,14 +33,14 @@ without_trivia_kinds p (token k t f) h =
 without_trivia_kinds p (branch k c f) h = ap (λ z. k ∷ z) (without_trivia_kinds p f h.1)
 without_trivia_kinds p (fault n c f) h = ap (λ z. NODE_ERROR ∷ z) (without_trivia_kinds p f h.1)
 
--- what a forest begins with
+-- a forest without trivia begins with a token exactly if the first of its trees that are no trivia is a leaf
 without_trivia_begins : (p : SyntaxKind) (f : AnnotatedForest) → HaveLeafKinds p f → begins_with_token (without_trivia f) ≡ begins_with_leaf (forget f)
 without_trivia_begins p (token k t f) h =
     by_leaf (is_trivia t.kind) k t (without_trivia f) begins_with_token (begins_with_leaf (forget f)) true (without_trivia_begins p f h.1) refl
     ∙ ap (λ x. if x then begins_with_leaf (forget f) else true) (leaf_trivia p k t h.0)
 without_trivia_begins p _ h = cc
 
--- bound names
+-- a bound name has its form with trivia exactly if it has it without
 without_trivia_bind : (first : Bool) (k : SyntaxKind) (c : AnnotatedForest) → HaveLeafKinds k c
     → is_item_bind_formed first k (without_trivia c) ≡ is_bind_formed first k (forget c)
 without_trivia_bind true NODE_PAT_BIND c h = ap (λ x. if x then false else true) (without_trivia_begins NODE_PAT_BIND c h)
@@ -53,7 +53,7 @@ error_bind : (first : Bool) (c : Forest) (b : Bool) → (is_bind_formed first NO
 error_bind true c b = refl
 error_bind false c b = refl
 
--- bound names in a forest
+-- this holds for the bound names of a forest
 without_trivia_binds : (p : SyntaxKind) (first : Bool) (f : AnnotatedForest) → HaveLeafKinds p f
     → are_item_binds_formed first (without_trivia f) ≡ are_binds_formed first (forget f)
 without_trivia_binds p first blank h = refl
@@ -71,7 +71,7 @@ no_error_row : (ks : List SyntaxKind) → is_row NODE_ERROR ks ≡ true → ⊥
 no_error_row [] h = true_is_not_false (sym h)
 no_error_row (k ∷ ks) h = true_is_not_false (sym h ∙ ap may_end (nowhere ks))
 
--- each node has its row with trivia if it has it without
+-- the children of each node are a row with trivia exactly if they are without
 are_rows : (p : SyntaxKind) (f : AnnotatedForest) → HaveLeafKinds p f → AreErrorFreeRows (without_trivia f) ↔ AreRows (forget f)
 are_rows p blank h = (λ r. tt, λ r. tt)
 are_rows p (token k t f) h =
@@ -90,20 +90,20 @@ abbrev pub text_in : Option Token → Option (List ℕ)
 text_in None = None
 text_in (Some t) = Some t.text
 
--- the text of a name
+-- the text of a name is the same with trivia and without
 without_trivia_text : (p : SyntaxKind) (c : AnnotatedForest) → HaveLeafKinds p c → text_in (only_token (without_trivia c)) ≡ leaf_text (forget c)
 without_trivia_text p (token k t f) h =
     by_leaf (is_trivia t.kind) k t (without_trivia f) (λ x. text_in (only_token x)) (leaf_text (forget f)) (Some t.text) (without_trivia_text p f h.1) refl
     ∙ ap (λ x. if x then leaf_text (forget f) else Some t.text) (leaf_trivia p k t h.0)
 without_trivia_text p _ h = cc
 
--- the name of a node that may be one
+-- so is the text of a node that may be a name
 without_trivia_ident : (k : SyntaxKind) (c f : AnnotatedForest) → HaveLeafKinds k c
     → text_in (entry_name (branch k (without_trivia c) f)) ≡ text_if k (forget c)
 without_trivia_ident NODE_IDENT c f h = without_trivia_text NODE_IDENT c h
 without_trivia_ident _ c f h = refl
 
--- the name that an entry begins with
+-- so is the name with which an entry begins
 without_trivia_entry : (p : SyntaxKind) (c : AnnotatedForest) → HaveLeafKinds p c → text_in (entry_name (without_trivia c)) ≡ name_in (forget c)
 without_trivia_entry p (token k t f) h =
     by_leaf (is_trivia t.kind) k t (without_trivia f) (λ x. text_in (entry_name x)) (name_in (forget f)) None (without_trivia_entry p f h.1) refl
@@ -111,7 +111,7 @@ without_trivia_entry p (token k t f) h =
 without_trivia_entry p (branch k c f) h = without_trivia_ident k c (without_trivia f) h.0
 without_trivia_entry p _ h = assumption
 
--- the name of a node that may be an entry
+-- so is the name of a node that may be an entry
 pub without_trivia_name : (k : SyntaxKind) (c : AnnotatedForest) → HaveLeafKinds k c → text_in (name_of_items k (without_trivia c)) ≡ name_if k (forget c)
 without_trivia_name NODE_PAT_ENTRY c h = without_trivia_entry NODE_PAT_ENTRY c h
 without_trivia_name _ c h = refl
@@ -121,26 +121,26 @@ pub repeats_named : (k : SyntaxKind) (b c : AnnotatedForest) → repeats k b c �
 repeats_named NODE_PAT_ENTRY b c = refl
 repeats_named _ b c = refl
 
--- a name is in one of two lists
+-- a name is in two joined lists exactly if it is in one of them
 among-++ : (name : List ℕ) (xs ys : List (List ℕ)) → is_among name (xs ++ ys) ≡ (if is_among name xs then true else is_among name ys)
 among-++ name [] ys = refl
 among-++ name (x ∷ xs) ys =
     ap (λ z. if bytes_eq name x then true else z) (among-++ name xs ys) ∙ either_assoc (bytes_eq name x) (is_among name xs) (is_among name ys)
 
--- the names of the entries in the trees before
+-- a list is that of the names of the entries in a forest
 abbrev pub Lists : List (List ℕ) → AnnotatedForest → Type 0
 Lists names b = (name : List ℕ) → has_entry name b ≡ is_among name names
 
--- a leaf has no name
+-- a leaf adds no name
 lists_token : (names : List (List ℕ)) (b : AnnotatedForest) (k : SyntaxKind) (t : Token) → Lists names b → Lists names (b ⊕ one_token k t)
 lists_token names b k t h = λ name. has-⊕ name b (one_token k t) ∙ if_not (has_entry name b) ∙ h name
 
--- a name after others, if there is one
+-- a list of names with another one, if there is one
 abbrev pub added : List (List ℕ) → Option (List ℕ) → List (List ℕ)
 added names None = names
 added names (Some name) = names ++ (name ∷ [])
 
--- a node may have a name
+-- a node adds its name, if it has one
 lists_branch : (names : List (List ℕ)) (b : AnnotatedForest) (k : SyntaxKind) (c : AnnotatedForest) → Lists names b
     → Lists (added names (text_in (name_of_items k c))) (b ⊕ one_branch k c)
 lists_branch names b k c h = λ name.
@@ -151,18 +151,18 @@ lists_branch names b k c h = λ name.
     by_name name None = if_not (has_entry name b) ∙ h name
     by_name name (Some t) = ap (λ x. if x then true else (if bytes_eq name t.text then true else false)) (h name) ∙ sym (among-++ name names (t.text ∷ []))
 
--- a name that is new
+-- a name, if there is one, is not in a list
 abbrev pub IsNew : List (List ℕ) → Option (List ℕ) → Type 0
 IsNew names None = Unit {0}
 IsNew names (Some name) = is_among name names ≡ false
 
--- the first name and those after it
+-- all names are new if the first one is and those after it are
 new_all : (before : List (List ℕ)) (o : Option (List ℕ)) (names : List (List ℕ))
     → AreNew before (with_name o names) ↔ (IsNew before o × AreNew (added before o) names)
 new_all before None names = (λ h. (tt, h), λ h. h.1)
 new_all before (Some name) names = (λ h. (h.0, h.1), λ h. (h.0, h.1))
 
--- what is new is not reported
+-- a name that is new is not reported, and one that is not is
 new_repeated : (names : List (List ℕ)) (b : AnnotatedForest) (o : Option Token) → Lists names b → (repeated_if o b ≡ []) ↔ IsNew names (text_in o)
 new_repeated names b None h = (λ e. tt, λ e. refl)
 new_repeated names b (Some t) h = subst (λ x. ((if x then duplicated_args (extent_of (t ∷ [])) t.text ∷ [] else []) ≡ []) ↔ (is_among t.text names ≡ false))
@@ -172,15 +172,15 @@ new_repeated names b (Some t) h = subst (λ x. ((if x then duplicated_args (exte
     by true = (λ e. cc, λ e. cc)
     by false = (λ e. refl, λ e. refl)
 
--- two lists are empty together if each is
+-- two joined lists are empty exactly if each is
 none_all : (es fs : List Fault) → (es ++ fs ≡ []) ↔ ((es ≡ []) × (fs ≡ []))
 none_all es fs = (λ h. (none_remaining es fs h, none_right es fs h), λ h. ap (λ x. x ++ fs) h.0 ∙ h.1)
 
--- the names of a forest's entries are none of those before it, and no name is repeated in it
+-- the names of a forest's entries are not among those before it, and none is repeated
 abbrev IsNewRow : List (List ℕ) → Forest → Type 0
 IsNewRow names f = AreNew names (entry_names f) × AreUnrepeated f
 
--- where every node has its row nothing is reported exactly if no name is repeated
+-- if the children of every node are a row, nothing is reported exactly if no name is repeated
 silent : (p : SyntaxKind) (g b : AnnotatedForest) (names : List (List ℕ)) → HaveLeafKinds p g → Lists names b → AreErrorFreeRows (without_trivia g)
     → (reports_behind b (without_trivia g) ≡ []) ↔ IsNewRow names (forget g)
 silent p blank b names h l r = (λ e. (tt, tt), λ w. refl)
@@ -213,7 +213,7 @@ silent p (branch k c f) b names h l r =
     )
 silent p (fault n c f) b names h l r = absurd r
 
--- a text has no error exactly if its tree has its shape and no name of a pattern is repeated
+-- a text has no errors exactly if its tree has its shape and no name of a pattern is repeated
 pub root_shaped : (f g : AnnotatedForest) (es : List Fault) → ReadsRoot f es → without_trivia g ≡ f → HaveLeafKinds NODE_ROOT g
     → (es ≡ [] → AreNodesTrimmed (forget g))
     → (es ≡ []) ↔ (IsShaped (record { kind = NODE_ROOT; children = forget g }) × IsUnrepeated (record { kind = NODE_ROOT; children = forget g }))
@@ -243,7 +243,7 @@ leaf_reports : (x : Bool) (k : SyntaxKind) (t : Token) (b f : AnnotatedForest)
 leaf_reports true k t b f = ap (λ z. reports_behind z f) (sym (⊕-blank b))
 leaf_reports false k t b f = refl
 
--- what a forest reports, its items report
+-- a forest reports what its items report
 pub without_trivia_reports : (b g : AnnotatedForest) → AreFaultsTrimmed g → reports_behind (without_trivia b) (without_trivia g) ≡ reports_within b g
 without_trivia_reports b blank h = refl
 without_trivia_reports b (token k t f) h =

@@ -1,4 +1,4 @@
--- Where the trivia of the open frames are is determined by their items and the tokens.
+-- The items of the open frames and the tokens of the text determine where the trivia of the frames are.
 use Rattle.std.proofs.Common.{◌≡◌, ℕ, suc, Bool, true, false, List, [], ◌∷◌, ◌++◌, Option, refl, sym, ap, ◌∙◌, subst, if◌then◌else◌, nat_le}
 use Rattle.rnix_kinds.specs.declared.kinds.SyntaxKind.{SyntaxKind, TheVariants.{NODE_ERROR, NODE_IDENT, NODE_IDENT_PARAM, NODE_APPLY, NODE_LEGACY_LET}}
 use Rattle.{rnix_kinds.specs.declared.kinds.SyntaxKind.TheVariants.{NODE_PATTERN, NODE_PAT_BIND}, rnix_grammar.specs.declared.position.Position.Position}
@@ -19,7 +19,7 @@ use Rattle.rnix_grammar.specs.declared.position.Position.TheVariants as p
 use Rattle.rnix_grammar.specs.declared.action.Action.TheVariants as a
 use Rattle.rnix_grammar.specs.declared.operand_start.OperandStart.TheVariants as b
 
--- a forest that waits for a tree: it has the trivia before the tree, which begins with the tokens vs
+-- a forest with the trivia after it waits for a tree that begins with the tokens `vs`
 pub record IsAwaiting (trees : AnnotatedForest) (ts vs : List Token) : Type 0 where
   pub before : AnnotatedForest
   pub at : List Token
@@ -27,73 +27,73 @@ pub record IsAwaiting (trees : AnnotatedForest) (ts vs : List Token) : Type 0 wh
   pub before_has_trivia : HasTrivia before ts at
   pub next : vs ≡ from_item at
 
--- the forests that wait, one above another: each begins where the tree begins for which the one below waits, and the lowest with all tokens
+-- the forests of all frames wait, each for a tree that begins with the tokens of the frame above it; the lowest begins with all tokens
 abbrev pub AreAwaiting : List Token → List Frame → List Token → Type 0
 AreAwaiting all [] vs = vs ≡ all
 AreAwaiting all (g ∷ gs) vs = (ts : List Token) × (IsAwaiting g.children ts vs × AreAwaiting all gs ts)
 
--- a tree is in the forest of an operand
+-- an operand's forest has a tree
 abbrev pub HasOperand : Head → AnnotatedForest → Type 0
 HasOperand Operand trees = HasTree (without_trivia trees)
 HasOperand head trees = Unit {0}
 
--- all forests, of which the innermost continues with the tokens us
+-- all forests have their trivia, and the innermost one continues with the tokens `us`
 abbrev pub HaveTrivia : List Token → List Frame → List Token → Type 0
 HaveTrivia all [] us = Unit {0}
 HaveTrivia all (f ∷ fs) us = (ts : List Token) × (HasTrivia f.children ts us × (HasOperand f.head f.children × AreAwaiting all fs ts))
 
--- the forests of a machine
+-- the forests of a machine have their trivia
 abbrev pub AttachesTrivia : List Token → Machine → Type 0
 AttachesTrivia all m = HaveTrivia all m.frames m.remaining
 
--- a forest begins to wait
+-- a forest with trivia, and those after it, waits for the next item
 awaits : (trees : AnnotatedForest) (ts us : List Token) → HasTrivia trees ts us → IsAwaiting (with_leading true trees us) ts (from_item us)
 awaits trees ts us h = record { before = trees; at = us; row_is = refl; before_has_trivia = h; next = refl }
 
--- a forest in which nothing is read waits
+-- an empty forest waits for the next item
 awaits_blank : (ts : List Token) → HasNoLeadingTrivia ts → IsAwaiting blank ts ts
 awaits_blank ts b = record { before = blank; at = ts; row_is = sym (no_leading_trivia ts b); before_has_trivia = with_trivia_blank ts; next = sym b }
 
--- what is waited for does not begin with trivia
+-- the awaited tree does not begin with trivia
 awaited_no_leading_trivia : (trees : AnnotatedForest) (ts vs : List Token) → IsAwaiting trees ts vs → HasNoLeadingTrivia vs
 awaited_no_leading_trivia trees ts vs h = subst HasNoLeadingTrivia (sym h.next) (from_no_leading_trivia h.at)
 
--- a forest that waited, with a tree after it
+-- a forest that waited has its trivia once the tree has been added
 came : (trees g : AnnotatedForest) (ts vs us : List Token) → IsAwaiting trees ts vs → HasTrivia g vs us → HasTree (without_trivia g)
     → HasTrivia (trees ⊕ g) ts us
 came trees g ts vs us h j t =
     subst (λ (x : AnnotatedForest). HasTrivia (x ⊕ g) ts us) (sym h.row_is)
     (with_trivia_added h.before g ts h.at us h.before_has_trivia (subst (λ (x : List Token). HasTrivia g x us) h.next j) t)
 
--- what becomes of the children of a frame
+-- the node that a frame becomes has its trivia
 made_with_trivia : (h : Head) (trees : AnnotatedForest) (ts us : List Token) → HasNoLeadingTrivia ts → HasTrivia trees ts us → HasTrivia (made h trees) ts us
 made_with_trivia (Node k) trees ts us b h = with_trivia_branch k trees ts us b h
 made_with_trivia SecondBind trees ts us b h = with_trivia_fault DoubleBind trees ts us refl b h
 made_with_trivia Operand trees ts us b h = h
 
--- is a tree
+-- the node that a frame becomes is a tree
 made_tree : (h : Head) (trees : AnnotatedForest) → HasOperand h trees → HasTree (without_trivia (made h trees))
 made_tree Operand trees t = t
 made_tree _ trees t = tt
 
--- a forest with a tree, whatever its head
+-- a forest with a tree is an operand's, whatever its head
 operand_tree : (h : Head) (trees : AnnotatedForest) → HasTree (without_trivia trees) → HasOperand h trees
 operand_tree Operand trees t = t
 operand_tree _ trees t = tt
 
--- an operand is no root, so it does not begin with trivia
+-- an operand is above another frame, so it does not begin with trivia
 on_some : (all : List Token) (head : Head) (position : Position) (fs : List Frame) (ts : List Token) → frame_kind position ≡ OperandFrame
     → IsStackedOn head position fs
     → AreAwaiting all fs ts → HasNoLeadingTrivia ts
 on_some all head position [] ts e w h = absurd (cc)
 on_some all head position (f ∷ fs) ts e w h = awaited_no_leading_trivia f.children h.0 ts h.1.0
 
--- a frame that waits for what begins with the next item
+-- a frame waits for a tree that begins with the next item
 waiting : (all : List Token) (f : Frame) (fs : List Frame) (ts : List Token) → HaveTrivia all (f ∷ fs) ts
     → AreAwaiting all (put f.position (with_leading true f.children ts) f ∷ fs) (from_item ts)
 waiting all f fs ts h = (h.0, (awaits f.children h.0 ts h.1.0, h.1.1.1))
 
--- a frame is complete
+-- the forests keep their trivia when a frame is complete
 closed_with_trivia : (all : List Token) (f : Frame) (fs : List Frame) (ts : List Token) (n : ℕ) (es : List Fault) → HaveTrivia all (f ∷ fs) ts
     → AttachesTrivia all (closed f fs ts n es)
 closed_with_trivia all f [] ts n es h = h
@@ -113,13 +113,13 @@ closed_with_trivia all f (g ∷ fs) ts n es h =
       ),
     )
 
--- an entry of a pattern is complete
+-- the forests keep their trivia when an entry of a pattern is complete
 entry_with_trivia : (all : List Token) (f : Frame) (fs : List Frame) (ts : List Token) (n : ℕ) (es : List Fault) → HaveTrivia all (f ∷ fs) ts
     → AttachesTrivia all (entry_closed true f fs ts n es)
 entry_with_trivia all f [] ts n es h = h
 entry_with_trivia all f (g ∷ fs) ts n es h = closed_with_trivia all f (g ∷ fs) ts n (es ++ repeated (without_trivia g.children) (without_trivia f.children)) h
 
--- a second item as a leaf after a forest that begins with the first
+-- a second item as a leaf, after a forest that begins with the first, has its trivia
 two_with_trivia : (j : SyntaxKind) (trees : AnnotatedForest) (ts : List Token) (x : Token) (us : List Token) → items ts ≡ x ∷ us
     → is_there (head_kind us) ≡ true → HasTrivia trees (from_item ts) (after_item true ts)
     → HasTrivia (with_leading true trees (after_item true ts) ⊕ leaf true j (after_item true ts)) (from_item ts) (after_item true (after_item true ts))
@@ -129,11 +129,11 @@ two_with_trivia j trees ts x us i s h =
     (with_trivia_leaf j (after_item true ts))
     (tree_leaf j (after_item true ts) (subst (λ (z : List Token). is_there (head_kind z) ≡ true) (sym later) s))
 
--- a node over a leaf
+-- a node over one leaf has its trivia
 one_with_trivia : (j : SyntaxKind) (ts : List Token) → HasTrivia (one_branch j (leaf true j ts)) (from_item ts) (after_item true ts)
 one_with_trivia j ts = with_trivia_branch j (leaf true j ts) (from_item ts) (after_item true ts) (from_no_leading_trivia ts) (with_trivia_leaf j ts)
 
--- an operand begins, where f waits for it
+-- the forests keep their trivia when an operand begins that a frame waits for
 begun_with_trivia : (all : List Token) (how : OperandStart) (level d : ℕ) (t x : Token) (us : List Token) (f : Frame) (fs : List Frame) (ts : List Token)
     (n : ℕ)
     (es : List Fault)
@@ -180,7 +180,7 @@ begun_with_trivia all b.Stray level d t x us f fs ts n es i s w = (
   ),
 )
 
--- an operand of a level, where f waits for it, or the end of the text
+-- the forests keep their trivia when an operand of a level is read, or is missing at the end of the text
 operand_with_trivia : (all : List Token) (level d : ℕ) (f : Frame) (fs : List Frame) (ts xs : List Token) (n : ℕ) (es : List Fault)
     → items ts ≡ xs → HaveTrivia all (f ∷ fs) ts → AttachesTrivia all (operand_on true level d f fs ts xs n es)
 operand_with_trivia all level d f fs ts [] n es i h = h
@@ -188,7 +188,7 @@ operand_with_trivia all level d f fs ts (t ∷ us) n es i h =
     begun_with_trivia all (operand_start_of level t.kind t.text (head_kind us) (second_kind us)) level d t t us f fs ts n es i
     (operand_start_inner level t.kind t.text (head_kind us) (second_kind us)) (waiting all f fs ts h)
 
--- all that is left is too deep
+-- the forests keep their trivia when everything left is nested too deep
 limited_with_trivia : (all : List Token) (f : Frame) (fs : List Frame) (ts : List Token) (n : ℕ) (es : List Fault) → HaveTrivia all (f ∷ fs) ts
     → AttachesTrivia all (limited true f fs ts n es)
 limited_with_trivia all f fs ts n es h =
@@ -215,7 +215,7 @@ limited_with_trivia all f fs ts n es h =
       ),
     )
 
--- an operand of a level, counted or not
+-- the same for an operand that is counted or not
 reading_with_trivia : (all : List Token) (level : ℕ) (counted : Bool) (f : Frame) (fs : List Frame) (ts : List Token) (n : ℕ) (es : List Fault)
     → HaveTrivia all (f ∷ fs) ts → AttachesTrivia all (reading true level counted f fs ts n es)
 reading_with_trivia all level true f fs ts n es h =
@@ -224,7 +224,7 @@ reading_with_trivia all level true f fs ts n es h =
     [ true ↦ limited_with_trivia all f fs ts n es h | false ↦ operand_with_trivia all level (suc f.depth) f fs ts (items ts) n es refl h ]
 reading_with_trivia all level false f fs ts n es h = operand_with_trivia all level f.depth f fs ts (items ts) n es refl h
 
--- a run of items in an error node, after a forest
+-- a run of items in an error node, after a forest, has its trivia
 run_with_trivia : (until : ExpectedSet) (trees : AnnotatedForest) (vs ts : List Token) → HasTrivia trees vs ts
     → HasTrivia (with_leading true trees ts ⊕ one_fault (Unwanted until) (run_leaves true (run_of until (items ts)) ts)) vs
     (run_rest true (run_of until (items ts)) ts)
@@ -234,23 +234,23 @@ run_with_trivia until trees vs ts h =
     (with_trivia_fault (Unwanted until) (run_leaves true run ts) (from_item ts) (run_rest true run ts) refl (from_no_leading_trivia ts)
     (with_trivia_run run ts (dropped run (items ts)) (run_prefix until (items ts)))) tt
 
--- a leaf in a node, after a forest
+-- a leaf in a node, after a forest, has its trivia
 name_with_trivia : (j : SyntaxKind) (trees : AnnotatedForest) (vs ts : List Token) → HasTrivia trees vs ts
     → HasTrivia (with_leading true trees ts ⊕ one_branch j (leaf true j ts)) vs (after_item true ts)
 name_with_trivia j trees vs ts h = with_trivia_added trees (one_branch j (leaf true j ts)) vs ts (after_item true ts) h (one_with_trivia j ts) tt
 
--- the next item after a forest
+-- the next item, after a forest, has its trivia
 next_with_trivia : (k : SyntaxKind) (trees : AnnotatedForest) (vs ts : List Token) → is_there (head_kind (items ts)) ≡ true → HasTrivia trees vs ts
     → HasTrivia (with_leading true trees ts ⊕ leaf true k ts) vs (after_item true ts)
 next_with_trivia k trees vs ts f h = with_trivia_added trees (leaf true k ts) vs ts (after_item true ts) h (with_trivia_leaf k ts) (tree_leaf k ts f)
 
--- a tree comes after a forest
+-- the forests keep their trivia when a tree is added to the innermost one
 grown : (all : List Token) (f : Frame) (fs : List Frame) (ts us : List Token) (g : AnnotatedForest) → HasTree (without_trivia g)
     → ((vs : List Token) → HasTrivia f.children vs ts → HasTrivia (with_leading true f.children ts ⊕ g) vs us)
     → HaveTrivia all (f ∷ fs) ts → HaveTrivia all (put f.position (with_leading true f.children ts ⊕ g) f ∷ fs) us
 grown all f fs ts us g t d h = (h.0, (d h.0 h.1.0, (operand_tree f.head (with_leading true f.children ts ⊕ g) (tree_added f.children ts g t), h.1.1.1)))
 
--- what is done by a frame
+-- the forests keep their trivia when an allowed action is taken
 perform_with_trivia : (all : List Token) (action : Action) (f : Frame) (fs : List Frame) (ts : List Token) (n : ℕ) (es : List Fault)
     → Allowed f.position (head_kind (items ts)) action → IsStackedOn f.head f.position fs → HaveTrivia all (f ∷ fs) ts
     → AttachesTrivia all (perform true action f fs ts n es)
@@ -298,7 +298,7 @@ perform_with_trivia all a.ApplyOr f fs ts n es al w h =
       ),
     )
 
--- each step keeps the forests as their items and the tokens make them
+-- the forests keep their trivia in each step
 pub step_with_trivia : (all : List Token) (m : Machine) → AreStacked m.frames → AttachesTrivia all m → AttachesTrivia all (step true m)
 step_with_trivia all m k h = by_frames m.frames k h
   where
@@ -309,19 +309,19 @@ step_with_trivia all m k h = by_frames m.frames k h
         let near : Bool = touches m.prev_end (items m.remaining) in
         perform_with_trivia all (action_at f.position next near) f fs m.remaining m.prev_end m.faults (allowed f.position next near) k h
 
--- many steps keep the forests as their items and the tokens make them
+-- the forests keep their trivia in a run of steps
 pub runs_with_trivia : (all : List Token) {m n : Machine} → Runs true m n → AreStacked m.frames → AttachesTrivia all m → AttachesTrivia all n
 runs_with_trivia all rest k h = h
 runs_with_trivia all (further {m = m} r) k h = runs_with_trivia all r (step_stacked true m k) (step_with_trivia all m k h)
 
--- the root's forest is what its items and the tokens of the text make of it, and the tokens that are left are left after these items
+-- the root's forest has its trivia, and the tokens that are left remain after its items
 pub root_with_trivia : (ts : List Token) {m : Machine} (f : Frame) → Runs true (initial_machine ts) m → m.frames ≡ f ∷ [] → HasTrivia f.children ts m.remaining
 root_with_trivia ts {m = m} f r e =
     let all : HaveTrivia ts (f ∷ []) m.remaining =
     subst (λ (x : List Frame). HaveTrivia ts x m.remaining) e (runs_with_trivia ts r (initial_stacked ts) (ts, (with_trivia_blank ts, (tt, refl)))) in
     subst (λ (x : List Token). HasTrivia f.children x m.remaining) all.1.1.1 all.1.0
 
--- the trees of a whole text are what their items and its tokens make of them
+-- the trees of a whole text have the trivia that their items and its tokens determine
 pub root_row_with_trivia : (ts : List Token) (m : Machine) (f : Frame) → Runs true (initial_machine ts) m → m.frames ≡ f ∷ [] → items m.remaining ≡ []
     → f.children ⊕ trivia_before m.remaining ≡ with_all_trivia (without_trivia (f.children ⊕ trivia_before m.remaining)) ts
 root_row_with_trivia ts m f r e z =

@@ -1,4 +1,4 @@
--- What is given trivia from an item on begins and ends with items, as a forest of tokens and as trees.
+-- A forest that is given trivia from an item on begins and ends with items, both as annotated and as trees.
 use Rattle.std.proofs.Common.{◌≡◌, Bool, true, false, List, [], ◌∷◌, ◌++◌, refl, ap, sym, ◌∙◌, subst, append_assoc}
 use Rattle.rnix_kinds.specs.declared.kinds.SyntaxKind.{SyntaxKind, TheVariants.{TOKEN_IDENT, TOKEN_OR, NODE_IDENT, NODE_CUR_POS, NODE_ERROR}}
 use Rattle.{rnix_kinds.specs.SyntaxKind.is_trivia, rnix_grammar.specs.AnnotatedForest.{Token, AnnotatedForest, blank, token, branch, fault, ◌⊕◌, tokens_in}}
@@ -14,18 +14,18 @@ use Rattle.rnix_proof_rows.proofs.{ReadsFilled.{AreFilled, AreFaultsFilled, rows
 abbrev IsEdged : AnnotatedForest → Type 0
 IsEdged f = BeginsWithItem (kinds_in f) × EndsWithItem (kinds_in f)
 
--- and so does each node of a forest without error nodes
+-- so does each node of a forest, apart from error nodes
 abbrev pub AreEdged : AnnotatedForest → Type 0
 AreEdged blank = Unit {0}
 AreEdged (token k t f) = AreEdged f
 AreEdged (branch k c f) = IsEdged c × AreEdged c × AreEdged f
 AreEdged (fault n c f) = ⊥
 
--- the items of the children of a node, and those after it
+-- without trivia, the children of a node are its items, and the other items follow
 inside : (c f : AnnotatedForest) (ts us : List Token) → items ts ≡ (tokens_in c ++ tokens_in f) ++ us → IsBared c (from_item ts) (tokens_in f ++ us)
 inside c f ts us e = bared c (from_item ts) (tokens_in f ++ us) (items-from_item ts ∙ e ∙ append_assoc (tokens_in c) (tokens_in f) us)
 
--- from the first item on tokens begin with it
+-- from the first item on, tokens begin with it
 begins_item : (ts : List Token) → BeginsWithItem (token_kinds (from_item ts))
 begins_item [] = tt
 begins_item (t ∷ ts) = by (is_trivia t.kind) refl (begins_item ts)
@@ -34,12 +34,12 @@ begins_item (t ∷ ts) = by (is_trivia t.kind) refl (begins_item ts)
     by true e h = h
     by false e h = e
 
--- trees with their trivia have a token if they are some, and end with an item
+-- a nonempty forest with its trivia contains a token and ends with an item
 record IsEnded (f g : AnnotatedForest) : Type 0 where
   pub some : HasTree f → IsSome (kinds_in g)
   pub ends : EndsWithItem (kinds_in g)
 
--- so it is after trivia, of a tree and those after it
+-- this holds after trivia, for a tree and the trees after it
 ended_behind : (ts : List Token) (f x : AnnotatedForest) (js ks : List SyntaxKind) → kinds_in x ≡ js ++ ks → IsSome js → EndsWithItem js → EndsWithItem ks
     → IsEnded f (trivia_before ts ⊕ x)
 ended_behind ts f x js ks e s h j =
@@ -74,7 +74,7 @@ ended_trees (fault n c f) ts us e h =
     (token_kinds-++ (tokens_in d) (tokens_in (with_trivia f rest)))
     (below.some h.1) below.ends (ended_trees f rest us (inside c f ts us e).remaining h.3).ends)
 
--- what is given trivia from an item on begins and ends with items
+-- a forest that is given trivia from an item on begins and ends with items
 edged_from : (f : AnnotatedForest) (ts us : List Token) → items ts ≡ tokens_in f ++ us → AreFilled f → IsEdged (with_trivia f (from_item ts))
 edged_from f ts us e h =
     let own : items (from_item ts) ≡ tokens_in f ++ us = items-from_item ts ∙ e in
@@ -85,7 +85,7 @@ edged_from f ts us e h =
       (ended_trees f (from_item ts) us own h).ends,
     )
 
--- two forests
+-- if the nodes of two forests begin and end with items, so do those of both joined
 pub edged-⊕ : (f g : AnnotatedForest) → AreEdged f → AreEdged g → AreEdged (f ⊕ g)
 edged-⊕ blank g h j = j
 edged-⊕ (token k t f) g h j = edged-⊕ f g h j
@@ -97,7 +97,7 @@ pub edged_trivia : (ts : List Token) → AreEdged (trivia_before ts)
 edged_trivia [] = tt
 edged_trivia (t ∷ ts) = elim (is_trivia t.kind) as (λ x. AreEdged (trivia_if x t (trivia_before ts))) [ true ↦ edged_trivia ts | false ↦ tt ]
 
--- where each node has its row each begins and ends with items
+-- if the children of each node are a row, each node begins and ends with items
 pub with_trivia_edged : (f : AnnotatedForest) (ts us : List Token) → items ts ≡ tokens_in f ++ us → AreErrorFreeRows f → AreEdged (with_trivia f ts)
 with_trivia_edged blank ts us e h = tt
 with_trivia_edged (token k x f) ts us e h =
@@ -114,12 +114,12 @@ with_trivia_edged (branch k c f) ts us e h =
     )
 with_trivia_edged (fault n c f) ts us e h = absurd h
 
--- trivia after the node of what is too deep
+-- trivia after an error node of the nesting limit contain no error nodes
 trimmed_after : (z : Bool) (ts : List Token) → AreFaultsTrimmed (trivia_after z ts)
 trimmed_after true ts = faults_trimmed_trivia ts
 trimmed_after false ts = tt
 
--- no error node begins or ends with trivia
+-- no error node of a forest with its trivia begins or ends with trivia
 pub with_trivia_trimmed : (f : AnnotatedForest) (ts us : List Token) → items ts ≡ tokens_in f ++ us → AreFaultsFilled f → AreFaultsTrimmed (with_trivia f ts)
 with_trivia_trimmed blank ts us e h = tt
 with_trivia_trimmed (token k x f) ts us e h =
@@ -145,17 +145,17 @@ with_trivia_trimmed (fault n c f) ts us e h =
           (with_trivia_trimmed f later us (items-rest_after (is_last n) rest ∙ (inside c f ts us e).remaining) h.2),
     )
 
--- kinds that are trivia at the same places
+-- two lists of kinds have trivia at the same places
 data AreAlike : List SyntaxKind → List SyntaxKind → Type 0 where
   none : AreAlike [] []
   both : {j k : SyntaxKind} {js ks : List SyntaxKind} → is_trivia j ≡ is_trivia k → AreAlike js ks → AreAlike (j ∷ js) (k ∷ ks)
 
--- two such forests, one after the other
+-- if two pairs of lists do, so do the joined lists
 alike-++ : {js ks ls ms : List SyntaxKind} → AreAlike js ks → AreAlike ls ms → AreAlike (js ++ ls) (ks ++ ms)
 alike-++ none i = i
 alike-++ (both e h) i = both e (alike-++ h i)
 
--- they begin alike, and end alike
+-- such lists both begin with an item, or neither does; and both end with one, or neither does
 begins_alike : {js ks : List SyntaxKind} → AreAlike js ks → BeginsWithItem ks → BeginsWithItem js
 begins_alike none b = tt
 begins_alike (both e h) b = e ∙ b
@@ -165,12 +165,12 @@ ends_alike none b = tt
 ends_alike (both e none) b = e ∙ b
 ends_alike (both e (both {j = j} {k = k} f h)) b = ends_alike (both {j = j} {k = k} f h) b
 
--- a leaf is trivia as its token is
+-- a leaf is trivia exactly if its token is
 name_alike : (k : SyntaxKind) → is_trivia (leaf_kind_as NODE_IDENT k) ≡ is_trivia k
 name_alike TOKEN_OR = refl
 name_alike _ = refl
 
--- below the current position too
+-- below `__curPos` too
 trivia_alike : (k : SyntaxKind) → is_trivia (leaf_kind_as NODE_CUR_POS k) ≡ is_trivia k
 trivia_alike TOKEN_IDENT = refl
 trivia_alike _ = refl
@@ -181,7 +181,7 @@ remapped_is_trivia NODE_IDENT k = name_alike k
 remapped_is_trivia NODE_CUR_POS k = trivia_alike k
 remapped_is_trivia _ k = refl
 
--- the leaves of a forest and its tokens
+-- the leaves of a forest are trivia exactly where its tokens are
 leaves_alike : (p : SyntaxKind) (f : AnnotatedForest) → HaveLeafKinds p f → AreAlike (leaf_kinds (forget f)) (token_kinds (tokens_in f))
 leaves_alike p blank h = none
 leaves_alike p (token k t f) h = both (ap is_trivia h.0 ∙ remapped_is_trivia p t.kind) (leaves_alike p f h.1)
@@ -192,7 +192,7 @@ leaves_alike p (fault n c f) h =
     subst (AreAlike (leaf_kinds (forget c) ++ leaf_kinds (forget f))) (sym (token_kinds-++ (tokens_in c) (tokens_in f)))
     (alike-++ (leaves_alike NODE_ERROR c h.0) (leaves_alike p f h.1))
 
--- the nodes of a forest without its notes
+-- if the nodes of an annotated forest begin and end with items, so do those of its trees
 pub nodes_trimmed : (p : SyntaxKind) (f : AnnotatedForest) → HaveLeafKinds p f → AreEdged f → AreNodesTrimmed (forget f)
 nodes_trimmed p blank h e = tt
 nodes_trimmed p (token k t f) h e = nodes_trimmed p f h.1 e

@@ -1,4 +1,4 @@
--- With trivia between its items an error node holds others than are wanted if it does without, and one token if it has one item and no trivia at its edges.
+-- With trivia an error node still contains no wanted item. If it has one item and no trivia at its edges, it contains one token.
 use Rattle.std.{specs.List.list_all, proofs.Common.{◌≡◌, Bool, true, false, List, [], ◌∷◌, length, suc, ◌<◌, subst, refl, ap, sym, ◌∙◌, arith, if◌then◌else◌}}
 use Rattle.rnix_kinds.{specs.{declared.kinds.SyntaxKind.{SyntaxKind, TheVariants.NODE_ERROR}, SyntaxKind.is_trivia}, proofs.AllKinds.{all_kinds, implied}}
 use Rattle.rnix_grammar.specs.declared.expected_set.ExpectedSet.{ExpectedSet, TheVariants.RParen}
@@ -17,7 +17,7 @@ trivia_unwanted : (until : ExpectedSet) (k : SyntaxKind) → is_trivia k ≡ tru
 trivia_unwanted RParen = not_trivia (wanted_kinds RParen) refl
 trivia_unwanted until = not_trivia (wanted_kinds until) refl
 
--- so trivia between such tokens change nothing
+-- so trivia between tokens of other kinds leave them tokens of other kinds
 others_if : (kinds : List SyntaxKind) → ((k : SyntaxKind) → is_trivia k ≡ true → is_one_of kinds k ≡ false) → (w : Bool) (k : SyntaxKind) (t : Token)
     (f g : AnnotatedForest) → is_trivia t.kind ≡ w → k ≡ t.kind → (AreOthers kinds g → AreOthers kinds f) → AreOthers kinds (token_if w k t g)
     → (is_one_of kinds k ≡ false) × AreOthers kinds f
@@ -31,12 +31,12 @@ others_with_trivia kinds none (token k t f) o h =
     others_if kinds none (is_trivia t.kind) k t f (without_trivia f) refl o.0 (others_with_trivia kinds none f o.1) h
 others_with_trivia kinds none _ o h = absurd h
 
--- tokens that end with an item have one
+-- tokens that end with an item contain an item
 has_item : (t : Token) (ts : List Token) → EndsWithItem (token_kinds (t ∷ ts)) → 0 < length (items (t ∷ ts))
 has_item t [] e = subst (λ w. 0 < length (item_if w t [])) (sym e) (omega arith)
 has_item t (u ∷ ts) e = elim (is_trivia t.kind) as (λ w. 0 < length (item_if w t (items (u ∷ ts)))) [ true ↦ has_item u ts e | false ↦ omega arith ]
 
--- so tokens of one item, with no trivia at their edges, are one
+-- so tokens with one item and no trivia at their edges are one token
 one_token : (ts : List Token) → BeginsWithItem (token_kinds ts) → EndsWithItem (token_kinds ts) → length (items ts) ≡ 1 → length ts ≡ 1
 one_token [] b e h = h
 one_token (t ∷ []) b e h = refl
@@ -44,7 +44,7 @@ one_token (t ∷ (u ∷ ts)) b e h =
     let more : suc (length (items (u ∷ ts))) ≡ 1 = sym (ap (λ w. length (item_if w t (items (u ∷ ts)))) b) ∙ h in
     absurd (omega (arith, more, has_item u ts e))
 
--- an error node
+-- an error node has its form with trivia if it has it without
 form_with_trivia : (n : Note) (parent : SyntaxKind) (c : AnnotatedForest) → HaveLeafKinds NODE_ERROR c → BeginsWithItem (token_kinds (tokens_in c))
     → EndsWithItem (token_kinds (tokens_in c)) → IsFormed n parent (without_trivia c) → IsFormed n parent c
 form_with_trivia Stray parent c o b e h =
@@ -56,7 +56,7 @@ formed_if : (w : Bool) (parent k : SyntaxKind) (t : Token) (f : AnnotatedForest)
 formed_if true parent k t f h = h
 formed_if false parent k t f h = h
 
--- so it is of a forest with its trivia if it is of the forest without
+-- this holds for the error nodes of a forest
 pub forms_with_trivia : (parent : SyntaxKind) (f : AnnotatedForest) → HaveLeafKinds parent f → AreFaultsTrimmed f → AreFormed parent (without_trivia f)
     → AreFormed parent f
 forms_with_trivia parent blank o x h = tt

@@ -1,17 +1,17 @@
--- Names hold their tokens alone with trivia around them too.
+-- Names contain their tokens alone, with trivia around them too.
 use Rattle.std.proofs.Common.{◌≡◌, Bool, true, false, List, [], ◌∷◌, refl, sym}
 use Rattle.{rnix_kinds.specs.SyntaxKind.is_trivia, rnix_grammar.specs.AnnotatedForest.{Token, AnnotatedForest, blank, token, branch, fault, ◌⊕◌}}
 use Rattle.rnix_grammar.specs.{Layout.{from_item, tail_of, trivia_if, trivia_before, is_last, trivia_after, rest_after, remaining_after, with_trivia}, Trim.is_single_token}
 use Rattle.{rnix_grammar.specs.Trim.{begins_with_node, AreNamesSingleTokens}, rnix_proof_lemmas.proofs.{Basics.true_is_not_false, LayoutLemmas.trivia-from_item}}
 
--- two forests
+-- if the names of two forests are single tokens, so are those of both joined
 pub bare-⊕ : (f g : AnnotatedForest) → AreNamesSingleTokens f → AreNamesSingleTokens g → AreNamesSingleTokens (f ⊕ g)
 bare-⊕ blank g h j = j
 bare-⊕ (token k t f) g h j = bare-⊕ f g h j
 bare-⊕ (branch k c f) g h j = (h.0, h.1, bare-⊕ f g h.2 j)
 bare-⊕ (fault n c f) g h j = (h.0, bare-⊕ f g h.1 j)
 
--- trivia are no names
+-- trivia contain no names
 pub trivia_names : (ts : List Token) → AreNamesSingleTokens (trivia_before ts)
 trivia_names [] = tt
 trivia_names (t ∷ ts) = elim (is_trivia t.kind) as (λ x. AreNamesSingleTokens (trivia_if x t (trivia_before ts))) [ true ↦ trivia_names ts | false ↦ tt ]
@@ -20,12 +20,12 @@ trivia_after_names : (z : Bool) (ts : List Token) → AreNamesSingleTokens (triv
 trivia_after_names true ts = trivia_names ts
 trivia_after_names false ts = tt
 
--- from an item on a forest begins with a node as it does without trivia
+-- a forest that begins with a node still does when it is given trivia from the item on
 begins_with_trivia : (c : AnnotatedForest) (ts : List Token) → begins_with_node c ≡ true → begins_with_node (with_trivia c (from_item ts)) ≡ true
 begins_with_trivia (branch k c f) ts h = rw (trivia-from_item ts) refl
 begins_with_trivia _ ts h = absurd (true_is_not_false (sym h))
 
--- and has no more than one token
+-- a forest of a single token still is one when it is given trivia from the item on
 single_token_with_trivia : (c : AnnotatedForest) (ts : List Token) → is_single_token c ≡ true → is_single_token (with_trivia c (from_item ts)) ≡ true
 single_token_with_trivia blank ts h = refl
 single_token_with_trivia (token k t blank) ts h = rw (trivia-from_item ts) refl

@@ -1,4 +1,4 @@
--- A text that begins with a token: its bytes and its runs, whatever follows.
+-- Texts that begin with the same token: their bytes and runs inside the token, whatever follows.
 use Rattle.std.proofs.Common.{◌≡◌, ℕ, suc, ◌+◌, ◌<◌, ◌≤◌, Bool, true, false, not, ◌&&◌, ◌||◌, ◌==◌, List, [], ◌∷◌, ◌++◌, length, get_or, drop, refl, sym, ap}
 use Rattle.std.proofs.{Common.{◌∙◌, inl, inr, ◌⊎◌, arith, add-zero, add-one, get_or-drop, length-drop, eqb-true, eq-eqb, cond}, lemmas.List.get_or_append_left}
 use Rattle.std.proofs.lemmas.{List.{get_or-append-add, drop-append-le, get_or_past, Sums.{prefix_len_passes, prefix_len_stops}}, Bool.{cases_lt, cases_Bool}}
@@ -6,37 +6,37 @@ use Rattle.std.proofs.lemmas.Bool.{and_parts, and_from, both_ways, not-true, not
 use Rattle.std.{proofs.lemmas.Bool.{agree_below_at, Decides.nat_tests}, specs.{Prelude.codes, List.{prefix_len, list_all}}}
 use Rattle.rnix_kinds.specs.Lexical.Texts.{occurs_at, begins, run_end, is_blank}
 
--- a choice of which the test is known
+-- a choice whose test is true is its first value
 pub if_true : {A : Type 0} (b : Bool) (x y z : A) → b ≡ true → x ≡ z → cond b x y ≡ z
 if_true b x y z e f = cond-true b x y e ∙ f
 
 pub if_false : {A : Type 0} (b : Bool) (x y z : A) → b ≡ false → y ≡ z → cond b x y ≡ z
 if_false b x y z e f = cond-false b x y e ∙ f
 
--- the two cases of a test
+-- a statement that holds if a test is true and if it is false
 pub either : {P : Type 0} (b : Bool) → (b ≡ true → P) → (b ≡ false → P) → P
 either true pass fail = pass refl
 either false pass fail = fail refl
 
--- a byte of the token is the same before all that follows
+-- a byte of the token does not depend on what follows
 pub same_byte : (t s r : List ℕ) (i : ℕ) → i < length t → get_or (t ++ s) i 0 ≡ get_or (t ++ r) i 0
 same_byte t s r i h = get_or_append_left t s 0 i h ∙ sym (get_or_append_left t r 0 i h)
 
--- the next byte is the first that follows
+-- the byte after the token is the first one of what follows
 pub next_byte : (t r : List ℕ) → get_or (t ++ r) (length t) 0 ≡ get_or r 0 0
 next_byte t r = ap (λ k. get_or (t ++ r) k 0) (sym (add-zero (length t))) ∙ get_or-append-add t r 0 0
 
 pub next_byte_at : (t r : List ℕ) (i : ℕ) → i ≡ length t → get_or (t ++ r) i 0 ≡ get_or r 0 0
 next_byte_at t r i e = ap (λ k. get_or (t ++ r) k 0) e ∙ next_byte t r
 
--- `${` after the token is `${` before the rest
+-- `${` follows the token exactly if what follows begins with it
 pub dollar_after : (t r : List ℕ) → occurs_at (codes "${") (length t) (t ++ r) ≡ begins (codes "${") r
 dollar_after t r =
     let next : get_or (t ++ r) (suc (length t)) 0 ≡ get_or r 1 0 =
     ap (λ k. get_or (t ++ r) k 0) (sym (add-one (length t))) ∙ get_or-append-add t r 1 0 in
     ap (λ k. (k == 36) && (get_or (t ++ r) (suc (length t)) 0 == 123)) (next_byte t r) ∙ ap (λ k. (get_or r 0 0 == 36) && (k == 123)) next
 
--- a run is empty where its first byte is not of it
+-- a run is empty if the first byte is not in it
 pub no_run : (p : ℕ → Bool) (r : List ℕ) → p (get_or r 0 0) ≡ false → prefix_len p r ≡ 0
 no_run p [] out = refl
 no_run p (b ∷ r) out = cond-false (p b) _ _ out
@@ -44,7 +44,7 @@ no_run p (b ∷ r) out = cond-false (p b) _ _ out
 run_next : (p : ℕ → Bool) (b : ℕ) (xs : List ℕ) → p b ≡ true → prefix_len p (b ∷ xs) ≡ 1 + prefix_len p xs
 run_next p b xs e = cond-true (p b) _ _ e
 
--- runs are alike, if they are alike after a byte of the run
+-- two runs are equal if they are equal after a first byte that is in both
 run_step : (p : ℕ → Bool) (b : ℕ) (xs ys : List ℕ) → (p b ≡ true → prefix_len p ys ≡ prefix_len p xs) → prefix_len p (b ∷ ys) ≡ prefix_len p (b ∷ xs)
 run_step p b xs ys more =
     elim (cases_Bool (p b)) [
@@ -52,17 +52,17 @@ run_step p b xs ys more =
       | inr e ↦ cond-false (p b) _ _ e ∙ sym (cond-false (p b) _ _ e)
     ]
 
--- a run that ends inside the token ends there before all that follows
+-- a run that ends inside the token does not depend on what follows
 pub run_inside : (p : ℕ → Bool) (t s r : List ℕ) → prefix_len p (t ++ s) < length t → prefix_len p (t ++ r) ≡ prefix_len p (t ++ s)
 run_inside p [] s r h = absurd (omega arith)
 run_inside p (b ∷ t) s r h = run_step p b (t ++ s) (t ++ r) (λ e. run_inside p t s r (omega (arith, run_next p b (t ++ s) e)))
 
--- and one that ends with it at the latest ends there before what is not of the run
+-- a run that ends with the token at the latest is the same before bytes that are not in it
 pub run_stopped : (p : ℕ → Bool) (t s r : List ℕ) → prefix_len p (t ++ s) ≤ length t → prefix_len p r ≡ 0 → prefix_len p (t ++ r) ≡ prefix_len p (t ++ s)
 run_stopped p [] s r h stop = omega arith
 run_stopped p (b ∷ t) s r h stop = run_step p b (t ++ s) (t ++ r) (λ e. run_stopped p t s r (omega (arith, run_next p b (t ++ s) e)) stop)
 
--- the same from a place inside the token on
+-- the same for a run from a position in the token on
 pub end_stopped : (p : ℕ → Bool) (i : ℕ) (t s r : List ℕ) → i ≤ length t → run_end p i (t ++ s) ≤ length t → prefix_len p r ≡ 0
     → run_end p i (t ++ r) ≡ run_end p i (t ++ s)
 end_stopped p i t s r h k stop =
@@ -72,7 +72,7 @@ end_stopped p i t s r h k stop =
     let inner = run_stopped p (drop i t) s r (omega arith) stop in
     omega arith
 
--- the byte at which a run ends is not of the run
+-- the byte after a run is not in it
 pub run_stops : (p : ℕ → Bool) (xs : List ℕ) → p 0 ≡ false → p (get_or xs (prefix_len p xs) 0) ≡ false
 run_stops p xs out =
     elim (cases_lt (prefix_len p xs) (length xs)) [
@@ -80,7 +80,7 @@ run_stops p xs out =
       | inr past ↦ ap p (get_or_past xs (prefix_len p xs) 0 past) ∙ out
     ]
 
--- a run of more bytes is longer, if it takes the byte at the end of the other
+-- a run is longer than another if it includes its bytes and the byte after it
 pub run_longer : (p q : ℕ → Bool) (xs : List ℕ) → ((b : ℕ) → q b ≡ true → p b ≡ true) → p 0 ≡ false
     → p (get_or xs (prefix_len q xs) 0) ≡ true → prefix_len q xs < prefix_len p xs
 run_longer p q xs wider out pass =
@@ -93,7 +93,7 @@ run_longer p q xs wider out pass =
       ]
     ]
 
--- a byte of the run after one of its bytes is inside it
+-- the byte after a byte of a run is in the run if it passes the run's test
 pub run_more : (p : ℕ → Bool) (xs : List ℕ) (n : ℕ) → p 0 ≡ false → n < prefix_len p xs → p (get_or xs (n + 1) 0) ≡ true → n + 1 < prefix_len p xs
 run_more p xs n out h pass =
     elim (cases_lt (n + 1) (prefix_len p xs)) [
@@ -102,7 +102,7 @@ run_more p xs n out h pass =
           absurd (both_ways _ (ap (λ k. p (get_or xs k 0)) (sym same) ∙ run_stops p xs out) pass))
     ]
 
--- a run from a place on is not empty, if it takes the byte there
+-- a run from a position on is not empty if the byte there is in it
 pub end_some : (p : ℕ → Bool) (xs : List ℕ) (i : ℕ) → p 0 ≡ false → p (get_or xs i 0) ≡ true → i < run_end p i xs
 end_some p xs i out pass =
     elim (cases_lt 0 (prefix_len p (drop i xs))) [
@@ -113,7 +113,7 @@ end_some p xs i out pass =
           absurd (both_ways _ (ap p (sym here) ∙ run_stops p (drop i xs) out) pass))
     ]
 
--- a word that is inside the token is at the same place before all that follows
+-- whether a word occurs inside the token does not depend on what follows
 pub stands_inside : (w : List ℕ) (i : ℕ) (t s r : List ℕ) → i + length w ≤ length t → occurs_at w i (t ++ s) ≡ occurs_at w i (t ++ r)
 stands_inside [] i t s r h = refl
 stands_inside (b ∷ []) i t s r h = ap (λ k. k == b) (same_byte t s r i (omega arith))
@@ -130,7 +130,7 @@ byte_inside t r i b h e other =
           absurd (both_ways _ (not-true _ other) (eq-eqb b (get_or r 0 0) same)))
     ]
 
--- a word without the next byte is inside the token
+-- a word without the next byte, if it occurs at a position in the token, occurs inside it
 pub stands_within : (w : List ℕ) (i : ℕ) (t r : List ℕ) → list_all (λ b. not (b == get_or r 0 0)) w ≡ true → i ≤ length t → occurs_at w i (t ++ r) ≡ true
     → i + length w ≤ length t
 stands_within [] i t r other h e = omega arith
@@ -141,11 +141,11 @@ stands_within (b ∷ c ∷ w) i t r other h e =
     let here = byte_inside t r i b h parts.0 others.0 in
     omega (arith, stands_within (c ∷ w) (suc i) t r others.1 (omega arith) parts.1)
 
--- white space, or no byte
+-- the byte is white space, or there is none
 abbrev pub is_edge : ℕ → Bool
 is_edge b = is_blank b || b == 0
 
--- or `$`
+-- the byte is white space or `$`, or there is none
 abbrev pub is_next : ℕ → Bool
 is_next b = is_edge b || b == 36
 
@@ -160,7 +160,7 @@ apart_edge r (inr e) = or_left _ _ e
 next_low : (b : ℕ) → is_next b ≡ true → b < 37
 next_low b e = grind (arith, nat_tests)
 
--- a test that no such byte passes
+-- if a test fails for each such byte below 37, it fails for all of them
 pub next_out : (p : ℕ → Bool) → agree_below (λ b. is_next b && p b) (λ b. false) 37 ≡ true → (b : ℕ) → is_next b ≡ true → p b ≡ false
 next_out p none b e = ap (λ k. k && p b) (sym e) ∙ agree_below_at (λ c. is_next c && p c) (λ c. false) 37 b none (next_low b e)
 
@@ -170,7 +170,7 @@ edge_low b e = grind (arith, nat_tests)
 pub edge_out : (p : ℕ → Bool) → agree_below (λ b. is_edge b && p b) (λ b. false) 33 ≡ true → (b : ℕ) → is_edge b ≡ true → p b ≡ false
 edge_out p none b e = ap (λ k. k && p b) (sym e) ∙ agree_below_at (λ c. is_edge c && p c) (λ c. false) 33 b none (edge_low b e)
 
--- a byte that passes a test is in no word of other bytes
+-- a byte that passes a test occurs in no word whose bytes do not
 pub not_in_word : (p : ℕ → Bool) (w : List ℕ) (c : ℕ) → list_all (λ b. not (p b)) w ≡ true → p c ≡ true → list_all (λ b. not (b == c)) w ≡ true
 not_in_word p [] c e f = refl
 not_in_word p (b ∷ w) c e f =

@@ -1,4 +1,4 @@
--- A block comment, a bracket of a mode or a number is the same before white space.
+-- A block comment, a token that opens or closes a mode, or a number is the same before white space.
 use Rattle.std.proofs.Common.{◌≡◌, ℕ, suc, ◌+◌, ◌-◌, ◌<◌, ◌≤◌, Bool, true, false, not, ◌&&◌, ◌==◌, List, [], ◌∷◌, ◌++◌, length, get_or, drop, Some, None, refl}
 use Rattle.std.proofs.{Common.{sym, ap, ◌∙◌, subst, arith, cond, length-append, length-drop, eqb-true}, lemmas.{List.drop-append-le, Bool.and_parts}}
 use Rattle.std.{proofs.lemmas.Bool.{both_ways, cond_both, ne_eqb, true≢false, not-true}, specs.Prelude.codes}
@@ -10,7 +10,7 @@ use Rattle.rnix_proof_separation.proofs.{KeptCuts.{behind_next, after_next, rule
 use Rattle.rnix_proof_separation.proofs.{KeptOperators.{operator_plain, operator_first}, KeptNumbers.{IsPlainCut, FitsIf, number_same, number_plain}}
 use Rattle.rnix_proof_separation.proofs.KeptPaths.{is_relative, relative_keeps, relative_none}
 
--- the first pair inside a token is the first before all that follows
+-- the first pair of two bytes, if inside the token, does not depend on what follows
 pub pair_kept : (a b : ℕ) (t s r : List ℕ) → before_pair a b (t ++ s) + 2 ≤ length t → before_pair a b (t ++ r) ≡ before_pair a b (t ++ s)
 unfolding before_pair
 pair_kept a b [] s r h = absurd (omega arith)
@@ -27,7 +27,7 @@ pair_kept a b (x ∷ y ∷ t) s r h = by (x == a && y == b) h (pair_kept a b (y 
 abbrev pub inside : List ℕ → ℕ
 inside x = before_pair 42 47 (drop 2 x)
 
--- a block comment is the same before all that follows
+-- a block comment does not depend on what follows
 pub block_kept : (t s r : List ℕ) → Fits t (block_comment (inside (t ++ s)) (t ++ s))
     → (3 < length t) × (block_comment (inside (t ++ r)) (t ++ r) ≡ block_comment (inside (t ++ s)) (t ++ s))
 block_kept t s r =
@@ -45,7 +45,7 @@ block_kept t s r =
       if_false (inside (t ++ r) == length (drop 2 (t ++ r))) _ _ _ (ne_eqb _ _ (λ f. omega arith)) (ap (λ k. plain TOKEN_COMMENT (k + 4)) same),
     ))
 
--- the rules for what begins with a quote or `$`
+-- the rules for tokens that begin with a quote or `$`
 abbrev pub opener_rules : List ℕ → Cut
 opener_rules x = first_that_fits (opener x ∷ operator x ∷ []) (one_error x)
 
@@ -53,7 +53,7 @@ module _ (t s : List ℕ) (some : 0 < length t) where
   first_is : (r : List ℕ) (b c : ℕ) → (get_or (t ++ s) 0 0 == b) ≡ true → (b == c) ≡ false → (get_or (t ++ r) 0 0 == c) ≡ false
   first_is r b c is other = ap (λ k. k == c) (same_byte t r s 0 some ∙ eqb-true (get_or (t ++ s) 0 0) b is) ∙ other
 
-  -- what begins with a quote or `$` is the same before all that follows
+  -- a token that begins with a quote or `$` does not depend on what follows
   pub opener_kept : (r : List ℕ) → begins_opener (get_or (t ++ s) 0 0) ≡ true → Fits t (opener_rules (t ++ s)) → opener_rules (t ++ r) ≡ opener_rules (t ++ s)
   opener_kept r first =
       rule_cases (begins (codes "${") (t ++ s)) _ _ (operator (t ++ s) ∷ []) (one_error (t ++ s)) (λ (c : Cut). Fits t c → opener_rules (t ++ r) ≡ c)
@@ -66,7 +66,7 @@ module _ (t s : List ℕ) (some : 0 < length t) where
       (λ other h fits. absurd (both_ways _ (not-true _ (operator_first (t ++ s) other (λ b. not (begins_opener b)) refl h)) first))
       (λ h fits. absurd (true≢false fits.1)))))
 
--- the rules for what begins with a digit, `.`, `+`, `,` or `-`
+-- the rules for tokens that begin with a digit, `.`, `+`, `,` or `-`
 abbrev pub step_rules : List ℕ → Cut
 step_rules x = first_that_fits (ellipsis x ∷ relative x ∷ number x ∷ operator x ∷ []) (one_error x)
 
@@ -80,7 +80,7 @@ module _ (t s : List ℕ) (some : 0 < length t) where
   number_kept : (r : List ℕ) (cut : Cut) → is_edge (get_or r 0 0) ≡ true → number (t ++ s) ≡ Some cut → Fits t cut → number (t ++ r) ≡ Some cut
   number_kept r cut edge is fits = number_same t s r some edge (subst (FitsIf t) (sym is) fits) ∙ is
 
-  -- what begins with a digit, `.`, `+`, `,` or `-`
+  -- a token that begins with a digit, `.`, `+`, `,` or `-` is the same before white space
   pub step_keeps : KeepsCut step_rules t s (step_rules (t ++ s))
   step_keeps =
       rule_cases (begins (codes "...") (t ++ s)) _ None _ _ (KeepsCut step_rules t s)

@@ -1,4 +1,4 @@
--- A token outside strings and paths is cut again.
+-- A token outside strings and paths is the same before white space.
 use Rattle.std.proofs.Common.{◌≡◌, ◌⊎◌, ℕ, ◌<◌, true, false, ◌&&◌, ◌==◌, nat_lt, List, [], ◌∷◌, ◌++◌, length, get_or, Option, Some, None, refl, sym, ap, ◌∙◌}
 use Rattle.std.proofs.{Common.{subst, inl, inr, arith, eqb-true}, lemmas.{List.get_or_append_left, Bool.{cases_eq, cases_lt, both_ways, and_parts, eqb-false}}}
 use Rattle.{std.proofs.lemmas.Bool.{ltb-true, true≢false, Decides.nat_tests}, rnix_kinds.specs.declared.kinds.SyntaxKind.TheVariants.TOKEN_COMMENT}
@@ -13,11 +13,11 @@ use Rattle.rnix_proof_separation.proofs.{KeptCuts.{keeps_then, after_next, rule_
 use Rattle.rnix_proof_separation.proofs.{KeptSlashes.{angle_keeps, slash_keeps, home_keeps}, KeptComments.{block_kept, opener_kept, step_rules, step_keeps}}
 use Rattle.rnix_proof_separation.{proofs.KeptOperators.{operator_kept, operator_plain, operator_first}, specs.Separated.{is_error, is_white_space}}
 
--- the token is the same before all that follows, or before white space
+-- the cut does not depend on what follows, or is the same before white space
 abbrev pub IsKept : (List ℕ → Cut) → List ℕ → List ℕ → Cut → Type 0
 IsKept f t s cut = ((r : List ℕ) → f (t ++ r) ≡ cut) ⊎ Keeps f t s cut cut.change
 
--- the rules for other visible bytes
+-- the rules for any other visible byte
 abbrev symbol_rules : List ℕ → Cut
 symbol_rules x = first_that_fits (operator x ∷ []) (one_error x)
 
@@ -28,7 +28,7 @@ module _ (top : Option Mode) (t s : List ℕ) (some : 0 < length t) (cut : Cut) 
   first_byte : (r : List ℕ) (b : ℕ) → get_or (t ++ s) 0 0 ≡ b → get_or (t ++ r) 0 0 ≡ b
   first_byte r b e = same_byte t r s 0 some ∙ e
 
-  -- the first byte leaves some of the rules, or one
+  -- the cut is kept if the first byte leaves only some of the rules, and these keep it
   by_rules : (rules : List ℕ → Cut) → ((r : List ℕ) → rules (t ++ r) ≡ normal_cut top (t ++ r)) → KeepsCut rules t s (rules (t ++ s))
       → IsKept (normal_cut top) t s cut
   by_rules rules same keeps = inr (keeps_then (subst (KeepsCut rules t s) (same s ∙ is) keeps fits) (λ r after e. sym (same r) ∙ e))
@@ -41,14 +41,14 @@ module _ (top : Option Mode) (t s : List ℕ) (some : 0 < length t) (cut : Cut) 
       inr (keeps_then (subst (λ (c : Cut). KeepsRule rule t s (Some c)) (here found (sym e) ∙ is) keeps fits)
       (λ r after h. sym (there r (after_next cut.change t r after) cut (sym h))))
 
-  -- a comment to the end of its line
+  -- a comment that begins with `#` is kept
   line_kept : get_or (t ++ s) 0 0 ≡ 35 → IsKept (normal_cut top) t s cut
   line_kept first =
       by_rules (λ x. plain TOKEN_COMMENT (run_end (class_test Line) 0 x)) (λ r. normal-line_comment top (t ++ r) (first_byte r 35 first))
       (λ fit. stay_keeps refl (λ r behind. ap (plain TOKEN_COMMENT)
       (end_stopped (class_test Line) 0 t s r (omega arith) (omega (arith, fit.0)) (behind.1 (sym (get_or_append_left t s 0 0 some) ∙ first)))))
 
-  -- a block comment, or a slash or a path that begins with one
+  -- a block comment, or a slash or a path that begins with one, is kept
   slashed_kept : get_or (t ++ s) 0 0 ≡ 47 → IsKept (normal_cut top) t s cut
   slashed_kept first =
       elim (cases_eq (get_or (t ++ s) 1 0) 42) [
@@ -68,13 +68,13 @@ module _ (top : Option Mode) (t s : List ℕ) (some : 0 < length t) (cut : Cut) 
             | inr past ↦ eqb-false (get_or r 0 0) 42 out (sym (next_byte_at t r 1 (omega arith)) ∙ star)
           ]
 
-  -- a path that begins with `~`
+  -- a path that begins with `~` is kept
   home_kept : get_or (t ++ s) 0 0 ≡ 126 → IsKept (normal_cut top) t s cut
   home_kept first =
       by_rule home (λ found. normal-home top (t ++ s) found first) (λ r next found. normal-home top (t ++ r) found (first_byte r 126 first))
       (home (t ++ s)) refl (home_keeps t s some first)
 
-  -- an operator or a bracket, where no other rule names the first byte
+  -- an operator or a bracket is kept, if no other rule is for its first byte
   symbol_kept : (b : ℕ) → get_or (t ++ s) 0 0 ≡ b → begins_word b ≡ false → begins_opener b ≡ false → (b == 35) ≡ false → (b == 47) ≡ false
       → (b == 126) ≡ false → (b == 60) ≡ false → (b == 123) ≡ false → (b == 125) ≡ false → (nat_lt 42 b && nat_lt b 58) ≡ false → is_invisible b ≡ false
       → IsKept (normal_cut top) t s cut
@@ -85,7 +85,7 @@ module _ (top : Option Mode) (t s : List ℕ) (some : 0 < length t) (cut : Cut) 
       (λ found e fit. stay_keeps (operator_plain (t ++ s) found e).1 (λ r behind. rw (operator_kept t s r (apart_edge r behind.0) found fit.0 e)))
       (λ e fit. absurd (true≢false fit.1)))
 
-  -- no token but white space begins with an invisible byte
+  -- only white space begins with an invisible byte
   hidden : is_white_space cut.kind ≡ false → is_invisible (get_or (t ++ s) 0 0) ≡ true → ⊥
   hidden solid unseen =
       rule_cases (nat_lt 0 (space_len (t ++ s))) (plain TOKEN_WHITESPACE (space_len (t ++ s))) None (operator (t ++ s) ∷ []) (one_error (t ++ s))
@@ -120,7 +120,7 @@ module _ (top : Option Mode) (t s : List ℕ) (some : 0 < length t) (cut : Cut) 
   closed_kept : get_or (t ++ s) 0 0 ≡ 125 → IsKept (normal_cut top) t s cut
   closed_kept first = inl (λ r. sym (normal-closing_brace top (t ++ r) (first_byte r 125 first)) ∙ (normal-closing_brace top (t ++ s) first ∙ is))
 
-  -- a token that is neither white space nor an error
+  -- a token that is neither white space nor an error is kept
   pub normal_kept : is_white_space cut.kind ≡ false → IsKept (normal_cut top) t s cut
   normal_kept solid =
       let b = get_or (t ++ s) 0 0 in

@@ -1,4 +1,4 @@
--- A number is the same number before white space.
+-- A number is the same before white space.
 use Rattle.std.proofs.Common.{◌≡◌, ℕ, ◌+◌, ◌-◌, ◌<◌, ◌≤◌, Bool, true, false, not, ◌&&◌, ◌||◌, ◌==◌, List, ◌++◌, length, get_or, drop, Option, Some, None, refl}
 use Rattle.std.proofs.{Common.{sym, ap, ◌∙◌, subst, inl, inr, arith, cond, get_or-drop}, lemmas.{List.Sums.prefix_len_passes, Bool.{cases_lt, cond_both}}}
 use Rattle.std.{proofs.lemmas.Bool.{both_ways, and_parts, and_right, eqb-false}, specs.{Prelude.codes, Char.is_ascii_digit}}
@@ -7,22 +7,22 @@ use Rattle.rnix_kinds.specs.Lexical.{Texts.{begins, run_end}, Plain.plain, Numbe
 use Rattle.rnix_proof_separation.proofs.{Appended.{if_true, if_false, same_byte, next_byte_at, no_run, end_stopped, end_some, is_edge, edge_out}, KeptCuts.Fits}
 use Rattle.rnix_proof_separation.{proofs.KeptCuts.no_error_if, specs.Separated.is_error}
 
--- an `e`, and a sign
+-- the byte is `e` or `E`; and in the next test `+` or `-`
 abbrev pub is_mark : ℕ → Bool
 is_mark b = b == 101 || b == 69
 
 abbrev pub is_sign : ℕ → Bool
 is_sign b = b == 43 || b == 45
 
--- a point after digits of which the first two bytes are b and c
+-- a point after digits, whose first two bytes are `b` and `c`, belongs to the number
 abbrev pub is_point : ℕ → ℕ → ℕ → Bool
 is_point a b c = a == 46 && not (b == 48 && not (c == 46))
 
--- a point and a digit
+-- the text begins with a point and a digit
 abbrev is_fraction : List ℕ → Bool
 is_fraction x = begins (codes ".") x && is_ascii_digit (get_or x 1 0)
 
--- the parts of a number only add to its length
+-- the parts of a number only make it longer
 exponent_len : (i : ℕ) (x : List ℕ) → i ≤ (exponent i x).len
 exponent_len i x =
     cond_both (is_mark (get_or x i 0)) _ _ (λ (c : Cut). i ≤ c.len)
@@ -42,7 +42,7 @@ exponent_some i x e =
     let other = eqb-false (run_end is_ascii_digit i x) i (no_error_if (run_end is_ascii_digit i x == i) TOKEN_FLOAT e) in
     omega arith
 
--- a rule that fits gives the token
+-- if the rule applies, its cut is the token
 abbrev pub FitsIf : List ℕ → Option Cut → Type 0
 FitsIf t None = Unit {0}
 FitsIf t (Some cut) = Fits t cut
@@ -92,7 +92,7 @@ module _ (t s r : List ℕ) (some : 0 < length t) (edge : is_edge (get_or r 0 0)
             (rw (next_byte_at t r 1 (omega arith), edge_out is_ascii_digit refl (get_or r 0 0) edge))
       ]
 
-  -- a number, or none
+  -- a number, if there is one, is the same before white space
   pub number_same : FitsIf t (number (t ++ s)) → number (t ++ r) ≡ number (t ++ s)
   number_same =
       cond_both (is_ascii_digit (get_or (t ++ s) 0 0)) _ _ (λ (o : Option Cut). FitsIf t o → number (t ++ r) ≡ o)
@@ -109,11 +109,11 @@ module _ (t s r : List ℕ) (some : 0 < length t) (edge : is_edge (get_or r 0 0)
 abbrev pub HasNoSlash : ℕ → List ℕ → Type 0
 HasNoSlash i x = (k : ℕ) → k < i → ¬ (get_or x k 0 ≡ 47)
 
--- so it is with the token, which leaves the modes alone
+-- the cut has no slash in it, and leaves the modes alone
 abbrev pub IsPlainCut : List ℕ → Cut → Type 0
 IsPlainCut x cut = HasNoSlash cut.len x × (cut.change ≡ Stay)
 
--- a byte that passes a test is no slash, if a slash does not pass it
+-- if a slash does not pass a test, no byte that passes it is a slash
 no_slash : (p : ℕ → Bool) → p 47 ≡ false → (b : ℕ) → p b ≡ true → b ≡ 47 → ⊥
 no_slash p out b e f = both_ways (p b) (ap p f ∙ out) e
 
@@ -153,7 +153,7 @@ module _ (x : List ℕ) where
       (λ e. plain_fraction (end + 1) (no_slash_more end free (no_slash (λ b. b == 46) refl _ (and_parts (get_or x end 0 == 46) _ e).0)))
       (λ e. (free, refl))
 
-  -- the cut is plain, if there is one
+  -- this holds for a cut, if there is one
   abbrev IfCut : Option Cut → Type 0
   IfCut None = Unit {0}
   IfCut (Some cut) = IsPlainCut x cut
@@ -161,7 +161,7 @@ module _ (x : List ℕ) where
   none_before : HasNoSlash 0 x
   none_before k h is = absurd (omega arith)
 
-  -- a number has no slash
+  -- a number has no slash in it, and leaves the modes alone
   pub number_plain : (cut : Cut) → number x ≡ Some cut → IsPlainCut x cut
   number_plain cut is =
       subst IfCut is

@@ -6,11 +6,11 @@ use Rattle.rnix_kinds.specs.{declared.{kinds.SyntaxKind.SyntaxKind, tokenizer.ru
 use Rattle.{rnix_kinds.specs.Lexical.Operators.{operators, first_row, operator}, rnix_proof_separation.proofs.Appended.{if_true, if_false, stands_inside}}
 use Rattle.rnix_proof_separation.proofs.{Appended.{stands_within, is_edge, not_in_word}, KeptNumbers.IsPlainCut}
 
--- the words of the rows pass the test
+-- the words of all rows pass a test
 abbrev pub all_words : (List ℕ → Bool) → List (List ℕ × SyntaxKind) → Bool
 all_words test rows = list_all (λ row. test row.0) rows
 
--- a row that fits
+-- what holds of each row holds of the one that applies
 row_holds : (rows : List (List ℕ × SyntaxKind)) (x : List ℕ) (cut : Cut) (P : Cut → Type 0) (test : List ℕ → Bool) → all_words test rows ≡ true
     → ((w : List ℕ) (kind : SyntaxKind) → test w ≡ true → begins w x ≡ true → P (plain kind (length w))) → first_row rows x ≡ Some cut → P cut
 row_holds [] x cut P test ok each is = absurd (none-some cut is)
@@ -39,13 +39,13 @@ stands_no_slash (b ∷ c ∷ w) i x e f k low high is =
       | inr here ↦ slash_here b i k x (omega arith) parts.0 others.0 is
     ]
 
--- an operator has no slash
+-- an operator has no slash in it, and leaves the modes alone
 pub operator_plain : (x : List ℕ) (cut : Cut) → operator x ≡ Some cut → IsPlainCut x cut
 operator_plain x cut is =
     row_holds operators x cut (IsPlainCut x) has_no_slash refl
     (λ w kind ok e. (λ k h slash. stands_no_slash w 0 x e ok k (omega arith) (omega arith) slash, refl)) is
 
--- the first byte of a word
+-- the first byte of a word passes a test
 abbrev pub first_passes : (ℕ → Bool) → List ℕ → Bool
 first_passes test w = test (get_or w 0 0) && nat_lt 0 (length w)
 
@@ -54,7 +54,7 @@ word_first [] x some e = absurd (both_ways false refl some)
 word_first (b ∷ []) x some e = eqb-true (get_or x 0 0) b e
 word_first (b ∷ c ∷ w) x some e = eqb-true (get_or x 0 0) b (and_parts (get_or x 0 0 == b) (occurs_at (c ∷ w) 1 x) e).0
 
--- what an operator begins with
+-- an operator begins with a byte that passes a test, if all do
 pub operator_first : (x : List ℕ) (cut : Cut) (test : ℕ → Bool) → all_words (first_passes test) operators ≡ true → operator x ≡ Some cut
     → test (get_or x 0 0) ≡ true
 operator_first x cut test ok is =
@@ -62,7 +62,7 @@ operator_first x cut test ok is =
     (λ w kind passes e. let parts = and_parts (test (get_or w 0 0)) (nat_lt 0 (length w)) passes in ap test (word_first w x parts.1 e) ∙ parts.0) is
 
 module _ (t s r : List ℕ) where
-  -- a word that fits before s fits, and one that does not fit does not
+  -- a word begins the token before one text exactly if it does before another
   pub word_kept : (w : List ℕ) → length w ≤ length t → begins w (t ++ s) ≡ true → begins w (t ++ r) ≡ true
   word_kept w len e = sym (stands_inside w 0 t s r (omega arith)) ∙ e
 

@@ -1,4 +1,4 @@
--- A path is the same before white space, and a path that `${` follows before `${`.
+-- A path is the same before white space. A path that `${` follows is the same before `${`.
 use Rattle.std.proofs.Common.{◌≡◌, ℕ, ◌+◌, ◌-◌, ◌<◌, ◌≤◌, ◌⊎◌, Bool, true, false, not, ◌&&◌, ◌==◌, nat_lt, List, [], ◌∷◌, ◌++◌, length, get_or, take, drop}
 use Rattle.std.proofs.Common.{Option, Some, None, refl, sym, ap, ◌∙◌, subst, inl, inr, arith, cond, add-zero, get_or-drop, length-drop, length-append, eqb-true}
 use Rattle.std.proofs.{Common.eq-eqb, lemmas.{List.{take_at, get_or_append_left, Sums.{prefix_len_passes, prefix_len-le-length}}, Bool.{cases_lt, and_parts}}}
@@ -12,7 +12,7 @@ use Rattle.rnix_proof_separation.proofs.Appended.{if_true, if_false, same_byte, 
 use Rattle.rnix_proof_separation.proofs.{Appended.{run_longer, is_edge, is_next, apart_edge, next_out, edge_out}, KeptNumbers.HasNoSlash, KeptCuts.Fits}
 use Rattle.rnix_proof_separation.{proofs.KeptCuts.{Keeps, dollar_first, dollar_next, behind_next, no_error_if}, specs.Separated.is_error}
 
--- a segment of n bytes, by whether `${` follows it
+-- the cut of a segment of `n` bytes, which `${` follows or not
 abbrev pub segment_cut : PathStart → Change → Change → ℕ → Bool → List ℕ → Cut
 segment_cut start going ended n dollar bytes =
     cond dollar (record { kind = kind_of_path start; len = n; change = going })
@@ -30,7 +30,7 @@ module _ (t s : List ℕ) (start : PathStart) (going ended : Change) (from : ℕ
   segment_end : run_end is_path from (t ++ s) ≡ length t
   segment_end = sym (segment_len start going ended from (t ++ s)) ∙ fits.0
 
-  -- the token is a segment by what follows it
+  -- if the path characters end with the token, the segment is the token
   segment_at : (r : List ℕ) → run_end is_path from (t ++ r) ≡ length t
       → segment start going ended from (t ++ r) ≡ segment_cut start going ended (length t) (begins (codes "${") r) t
   segment_at r end =
@@ -52,7 +52,7 @@ module _ (t s : List ℕ) (start : PathStart) (going ended : Change) (from : ℕ
   pub segment_edge : (r : List ℕ) → is_edge (get_or r 0 0) ≡ true → segment start going ended from (t ++ r) ≡ segment_cut start going ended (length t) false t
   segment_edge r edge = segment_kept r false (or_left _ _ edge) (edge_no_dollar r edge)
 
-  -- `${` follows the segment, or it is whole
+  -- `${` follows the segment, or it is a whole path
   pub segment_cases : (P : Cut → Type 0) → (begins (codes "${") s ≡ true → P (segment_cut start going ended (length t) true t))
       → (begins (codes "${") s ≡ false → is_broken t ≡ false → P (segment_cut start going ended (length t) false t))
       → P (segment start going ended from (t ++ s))
@@ -61,7 +61,7 @@ module _ (t s : List ℕ) (start : PathStart) (going ended : Change) (from : ℕ
       subst P (sym is) (cond_both (begins (codes "${") s) _ _ P dollar (λ e. whole e (no_error_if (is_broken t) (kind_of_path start)
       (subst (λ (c : Cut). is_error c.kind ≡ false) (is ∙ ap (λ d. segment_cut start going ended (length t) d t) e) fits.1))))
 
--- a rule that gives the segment which begins a path
+-- a rule that gives the first segment of a path keeps it
 pub path_keeps : (rule : List ℕ → Option Cut) (t s : List ℕ) (start : PathStart) (from : ℕ) → from ≤ length t → Fits t (first_segment start from (t ++ s))
     → ((r : List ℕ) → is_next (get_or r 0 0) ≡ true → (is_broken t ≡ false) ⊎ (begins (codes "${") r ≡ true)
     → rule (t ++ r) ≡ Some (first_segment start from (t ++ r)))
@@ -80,7 +80,7 @@ path_keeps rule t s start from h fits goes =
           ∙ ap Some (segment_edge t s start (Open (Path start)) Stay from h fits r (apart_edge r behind.0));
     })
 
--- a token that ends with a slash is no whole segment
+-- a token that ends with a slash is no whole path
 pub slash_last : (t s : List ℕ) (n : ℕ) → n + 1 ≡ length t → get_or (t ++ s) n 0 ≡ 47 → is_broken t ≡ false → ⊥
 slash_last t s n e slash whole =
     let last : length t - 1 ≡ n = omega arith in
@@ -97,13 +97,13 @@ unfolding begins_space
 no_space_first [] some low out = absurd (omega arith)
 no_space_first (b ∷ x) some low out = rw (chars_ascii b x low, out) refl
 
--- text that begins with a visible byte does not begin with white space
+-- text from a visible byte on does not begin with white space
 no_space_at : (x : List ℕ) (i : ℕ) → i < length x → get_or x i 0 < 128 → is_whitespace (get_or x i 0) ≡ false → begins_space (drop i x) ≡ false
 no_space_at x i h low out =
     let here : get_or (drop i x) 0 0 ≡ get_or x i 0 = get_or-drop i x 0 0 ∙ ap (λ k. get_or x k 0) (add-zero i) in
     no_space_first (drop i x) (omega (arith, length-drop i x)) (subst (λ b. b < 128) (sym here) low) (ap is_whitespace here ∙ out)
 
--- the byte continues a path after `/`
+-- the byte continues a path after a slash
 abbrev IsNext : ℕ → Type 0
 IsNext b = (0 < b) × (b < 128) × (is_whitespace b ≡ false) × ((b == 47) ≡ false) × ((b == 42) ≡ false)
 
@@ -119,7 +119,7 @@ goes_on_parts x n on =
     let c = and_parts _ (not (get_or x (n + 1) 0 == 47)) a.0 in
     (eqb-true (get_or x n 0) 47 (and_parts (get_or x n 0 == 47) (nat_lt (n + 1) (length x)) c.0).0, not-true (get_or x (n + 1) 0 == 47) c.1)
 
--- what begins a relative path
+-- a relative path begins the text
 abbrev pub is_relative : List ℕ → Bool
 is_relative x = nat_lt 0 (prefix_len (class_test Step) x) && goes_on_as_path (prefix_len (class_test Step) x) x
 
@@ -130,7 +130,7 @@ module _ (t s : List ℕ) (is : is_relative (t ++ s) ≡ true) (fits : Fits t (f
   parts : (get_or (t ++ s) (prefix_len (class_test Step) (t ++ s)) 0 ≡ 47) × ((get_or (t ++ s) (prefix_len (class_test Step) (t ++ s) + 1) 0 == 47) ≡ false)
   parts = goes_on_parts (t ++ s) (prefix_len (class_test Step) (t ++ s)) (and_parts (nat_lt 0 (prefix_len (class_test Step) (t ++ s))) _ is).1
 
-  -- the first slash, and its place
+  -- the first slash is after the bytes before it
   pub slash_at : get_or (t ++ s) (prefix_len (class_test Step) (t ++ s)) 0 ≡ 47
   slash_at = parts.0
 
@@ -139,7 +139,7 @@ module _ (t s : List ℕ) (is : is_relative (t ++ s) ≡ true) (fits : Fits t (f
       let longer = run_longer is_path (class_test Step) (t ++ s) (λ b e. (and_parts (is_path b) _ e).0) refl (ap is_path slash_at) in
       omega (arith, longer, segment_len Relative (Open (Path Relative)) Stay 0 (t ++ s), fits.0)
 
-  -- the byte after it
+  -- the byte after the slash continues the path
   goes_on : (r : List ℕ) → (is_broken t ≡ false) ⊎ (begins (codes "${") r ≡ true) → IsNext (get_or (t ++ r) (prefix_len (class_test Step) (t ++ s) + 1) 0)
   goes_on r which =
       elim (cases_lt (prefix_len (class_test Step) (t ++ s) + 1) (length t)) [
@@ -167,11 +167,11 @@ module _ (t s : List ℕ) (is : is_relative (t ++ s) ≡ true) (fits : Fits t (f
   relative_keeps =
       path_keeps relative t s Relative 0 (omega arith) fits (λ r next which. if_true (is_relative (t ++ r)) _ _ _ (relative_on r which) refl)
 
--- no path begins where the bytes before the first slash are not followed by one
+-- without a slash after the bytes before one, no relative path begins
 pub relative_not : (x : List ℕ) → (get_or x (prefix_len (class_test Step) x) 0 == 47) ≡ false → relative x ≡ None
 relative_not x other = if_false (is_relative x) _ _ _ (and_right _ _ (and_left _ _ (and_left _ _ (and_left _ _ (and_left _ _ other))))) refl
 
--- a token without slashes begins no path before white space
+-- before white space, a token without slashes begins no relative path
 pub relative_none : (t r : List ℕ) → is_edge (get_or r 0 0) ≡ true → HasNoSlash (length t) (t ++ r) → relative (t ++ r) ≡ None
 relative_none t r edge free =
     let n = prefix_len (class_test Step) (t ++ r) in

@@ -1,4 +1,4 @@
--- What begins with `/`, `~` or `<` is the same before white space.
+-- A token that begins with `/`, `~` or `<` is the same before white space.
 use Rattle.std.proofs.Common.{◌≡◌, ℕ, zero, suc, ◌+◌, ◌<◌, ◌⊎◌, Bool, true, false, ◌&&◌, ◌||◌, ◌==◌, List, [], ◌∷◌, ◌++◌, length, get_or, drop, Option, Some}
 use Rattle.std.proofs.{Common.{None, refl, sym, ap, ◌∙◌, subst, inl, inr, arith, cond, get_or-drop, eqb-true, eq-eqb}, lemmas.Option.same_Some}
 use Rattle.std.proofs.lemmas.{List.Sums.{prefix_len_passes, prefix_len_is}, Bool.{cases_lt, cond_both, and_parts, and_from, and_right, or_left, or_right}}
@@ -13,12 +13,12 @@ use Rattle.rnix_proof_separation.proofs.{Appended.{is_next, edge_out}, KeptCuts.
 use Rattle.rnix_proof_separation.proofs.{KeptCuts.fits_first, KeptPaths.{segment_len, path_keeps, slash_last}, KeptOperators.{word_kept, word_none}}
 use Rattle.rnix_proof_separation.proofs.KeptOperators.{operator_kept, operator_plain}
 
--- `/` before a path character or `${`
+-- the text begins a path: `/` before a path character or `${`
 abbrev begins_path : List ℕ → Bool
 begins_path x = begins (codes "/${") x || (begins (codes "/") x && is_path (get_or x 1 0))
 
 module _ (t s : List ℕ) (some : 0 < length t) where
-  -- no `//` before what does not begin with a slash
+  -- the token is no `//` before bytes other than a slash
   update_none : (r : List ℕ) → is_next (get_or r 0 0) ≡ true → begins (codes "//") (t ++ s) ≡ false → begins (codes "//") (t ++ r) ≡ false
   update_none r next e = word_none t s r is_next (codes "//") refl next e
 
@@ -26,7 +26,7 @@ module _ (t s : List ℕ) (some : 0 < length t) where
     slash_first : (r : List ℕ) → begins (codes "/") (t ++ r) ≡ true
     slash_first r = eq-eqb _ 47 (same_byte t r s 0 some ∙ first)
 
-    -- a path begins, if there is more of the token, or `${`
+    -- a path begins if the token is longer than `/`, or `${` follows
     root_begins : (r : List ℕ) → Fits t (first_segment Root 0 (t ++ s)) → (is_broken t ≡ false) ⊎ (begins (codes "${") r ≡ true) → begins_path (t ++ r) ≡ true
     root_begins r fits which =
         elim (cases_lt 1 (length t)) [
@@ -66,11 +66,11 @@ module _ (t s : List ℕ) (some : 0 < length t) where
       (λ e. cond_both (begins (codes "~") (t ++ s)) _ _ (KeepsRule home t s) (λ f fits. absurd (true≢false fits.1))
       (λ f. both_ways _ f (eq-eqb _ 126 first)))
 
--- `<`, when the bytes after it are those of a search path
+-- `<` begins a search path, by the bytes after it
 abbrev is_search : List ℕ → Bool
 is_search x = get_or x 0 0 == 60 && get_or x (prefix_len (class_test Angle) x) 0 == 62
 
--- the run after `<` ends where the path characters do, if `>` follows them
+-- if `>` follows the path characters after `<`, the run after `<` ends there
 angle_run : (x : List ℕ) → get_or x 0 0 ≡ 60 → get_or x (run_end is_path 1 x) 0 ≡ 62 → prefix_len (class_test Angle) x ≡ run_end is_path 1 x
 angle_run x first last =
     let inside : run_end is_path 1 x < length x = within_from_byte x (run_end is_path 1 x) (omega arith) in
@@ -88,7 +88,7 @@ EndsAngle b = (class_test Angle b ≡ false) × ((b == 62) ≡ false)
 edge_ends : (b : ℕ) → is_edge b ≡ true → EndsAngle b
 edge_ends b e = (edge_out (class_test Angle) refl b e, edge_out (λ c. c == 62) refl b e)
 
--- `<` before another byte begins no search path
+-- `<` before a byte that ends it begins no search path
 search_none : (x : List ℕ) → get_or x 0 0 ≡ 60 → EndsAngle (get_or x 1 0) → search_path x ≡ None
 search_none x first ends =
     let inside : 0 < length x = within_from_byte x 0 (omega arith) in
@@ -99,14 +99,14 @@ search_none x first ends =
     zero_of : (k : ℕ) → k < 1 → k ≡ 0
     zero_of k h = omega arith
 
--- an operator that begins with `<`
+-- an operator that begins with `<`, by its second byte
 abbrev angled : ℕ → Option Cut
 angled b = cond (b == 124) (Some (plain TOKEN_PIPE_LEFT 2)) (cond (b == 61) (Some (plain TOKEN_LESS_OR_EQ 2)) (Some (plain TOKEN_LESS 1)))
 
 operator_angled : (x : List ℕ) → get_or x 0 0 ≡ 60 → operator x ≡ angled (get_or x 1 0)
 operator_angled x first = rw first refl
 
--- the rules for what begins with `<`
+-- the rules for tokens that begin with `<`
 abbrev pub angle_rules : List ℕ → Cut
 angle_rules x = first_that_fits (search_path x ∷ operator x ∷ []) (one_error x)
 
@@ -114,7 +114,7 @@ module _ (t s : List ℕ) (some : 0 < length t) (first : get_or (t ++ s) 0 0 ≡
   angle_first : (r : List ℕ) → get_or (t ++ r) 0 0 ≡ 60
   angle_first r = same_byte t r s 0 some ∙ first
 
-  -- `<` alone
+  -- `<` alone is the same before white space
   less_kept : (r : List ℕ) → is_edge (get_or r 0 0) ≡ true → length t ≡ 1 → angle_rules (t ++ r) ≡ plain TOKEN_LESS 1
   less_kept r edge one =
       let next = next_byte_at t r 1 (sym one) in
@@ -126,7 +126,7 @@ module _ (t s : List ℕ) (some : 0 < length t) (first : get_or (t ++ s) 0 0 ≡
         edge_out (λ b. b == 61) refl (get_or r 0 0) edge,
       )
 
-  -- a search path
+  -- a search path is the same before white space
   found_kept : (r : List ℕ) → is_edge (get_or r 0 0) ≡ true → (run_end is_path 1 (t ++ s) == 1) ≡ false → get_or (t ++ s) (run_end is_path 1 (t ++ s)) 0 ≡ 62
       → run_end is_path 1 (t ++ s) + 1 ≡ length t → angle_rules (t ++ r) ≡ plain TOKEN_PATH_SEARCH (run_end is_path 1 (t ++ s) + 1)
   found_kept r edge other last len =
@@ -139,7 +139,7 @@ module _ (t s : List ℕ) (some : 0 < length t) (first : get_or (t ++ s) 0 0 ≡
       (ap (λ b. plain (cond b TOKEN_PATH_SEARCH TOKEN_ERROR) (run_end is_path 1 (t ++ s) + 1)) (eq-eqb _ 62 close)) in
       fits_first (search_path (t ++ r)) _ _ (if_true (is_search (t ++ r)) _ _ _ found (ap Some to))
 
-  -- another operator
+  -- another operator that begins with `<` is the same before white space
   angled_ends : (r : List ℕ) (cut : Cut) → is_edge (get_or r 0 0) ≡ true → cut.len ≡ length t → (b : ℕ) → get_or (t ++ r) 1 0 ≡ b → angled b ≡ Some cut
       → EndsAngle b
   angled_ends r cut edge len b is =

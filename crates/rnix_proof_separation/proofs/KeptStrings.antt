@@ -1,4 +1,4 @@
--- Content and the end of a string are the same before what follows them in the string, and after it.
+-- The contents and the end of a string are the same before what may follow them in the string, and after it.
 use Rattle.std.proofs.Common.{◌≡◌, ℕ, zero, suc, ◌+◌, ◌<◌, ◌≤◌, Bool, true, false, ◌&&◌, ◌||◌, ◌==◌, nat_lt, List, [], ◌∷◌, ◌++◌, length, get_or, drop, refl}
 use Rattle.std.proofs.{Common.{sym, ap, ◌∙◌, arith, cond, length-append}, lemmas.{List.drop_at, Bool.{and_left, cond_both, eqb-false, ne_eqb, le-ltb, lt-ltb}}}
 use Rattle.std.{proofs.lemmas.Bool.{ltb-false, true≢false, Decides.nat_tests}, specs.Prelude.codes}
@@ -8,7 +8,7 @@ use Rattle.rnix_kinds.specs.Lexical.{Plain.plain, Strings.{piece_len, content_fr
 use Rattle.{rnix_kinds.proofs.LexicalLemmas.StringsLemmas.{content_len-stop, content_len-stops, content_len-le}, rnix_proof_separation.proofs.Appended.if_true}
 use Rattle.rnix_proof_separation.proofs.{Appended.{if_false, same_byte, next_byte_at, is_edge}, KeptCuts.Fits, KeptOperators.word_kept}
 
--- the length of a piece by its first three bytes
+-- the length of a piece, by its first three bytes
 abbrev pub piece_of : Bool → ℕ → ℕ → ℕ → ℕ
 piece_of multiline a b c =
     cond (a == 36 && b == 123) 0
@@ -48,12 +48,12 @@ inside_step : (m : Bool) (k b : ℕ) (xs : List ℕ) → content_from m (suc k) 
 unfolding content_from
 inside_step m k b xs = refl
 
--- a sequence of pieces ends at the start of a text only where no piece is open
+-- if bytes of a piece are still to come, the content is not empty
 inside_none : (m : Bool) (k : ℕ) (s : List ℕ) → 0 < length s → content_from m (suc k) s ≡ 0 → ⊥
 inside_none m k [] some e = omega arith
 inside_none m k (b ∷ s) some e = omega (arith, inside_step m k b s)
 
--- a piece before the end of the content is the same piece before another text that begins with the same byte
+-- a piece before the end of the content is the same before another text that begins with the same byte
 piece_kept : (m : Bool) (x : ℕ) (t s r : List ℕ) (k : ℕ) → piece_len m (x ∷ (t ++ s)) ≡ suc k → content_from m k (t ++ s) ≡ length t → 0 < length s
     → get_or r 0 0 ≡ get_or s 0 0 → piece_len m (x ∷ (t ++ r)) ≡ suc k
 piece_kept m x [] s r zero e f some same =
@@ -71,7 +71,7 @@ content_step m x t s r (suc k) e is some same more =
     let inner : content_from m k (t ++ s) ≡ length t = omega (arith, content_piece m k x (t ++ s) e, is) in
     omega (arith, content_piece m k x (t ++ r) (piece_kept m x t s r k e inner some same), more k inner)
 
--- content is the same content before another text that begins with the same byte and with no piece
+-- content is the same before another text that begins with the same byte and with no piece
 pub content_kept : (m : Bool) (inside : ℕ) (t s r : List ℕ) → content_from m inside (t ++ s) ≡ length t → 0 < length s → get_or r 0 0 ≡ get_or s 0 0
     → piece_len m r ≡ 0 → content_from m inside (t ++ r) ≡ length t
 content_kept m zero [] s r is some same stop = content_len-stop m r stop
@@ -82,14 +82,14 @@ content_kept m (suc k) (x ∷ t) s r is some same stop =
 content_kept m zero (x ∷ t) s r is some same stop =
     content_step m x t s r (piece_len m (x ∷ (t ++ s))) refl is some same (λ k inner. content_kept m k t s r inner some same stop)
 
--- `${`, or the end of the string
+-- the cut of `${`, and of the end of the string
 abbrev pub opened : Cut
 opened = record { kind = TOKEN_INTERPOL_START; len = 2; change = Open (Interpolation 0) }
 
 abbrev pub closed : Bool → Cut
 closed multiline = record { kind = TOKEN_STRING_END; len = cond multiline 2 1; change = Close }
 
--- where no piece begins
+-- where no piece begins, the cut is `${` or the end of the string
 pub string_stop : (m : Bool) (x : List ℕ) → 0 < length x → piece_len m x ≡ 0 → string_cut m x ≡ cond (begins (codes "${") x) opened (closed m)
 string_stop m x some stop =
     let none = content_len-stop m x stop in
@@ -111,18 +111,18 @@ stop_closed false t s r len stop other edge =
     let first : get_or (t ++ r) 0 0 ≡ 34 = same_byte t r s 0 (omega arith) ∙ quote in
     (ap (λ k. piece_of false k (get_or (t ++ r) 1 0) (get_or (t ++ r) 2 0)) first, and_left _ _ (ap (λ b. b == 36) first))
 
--- `${` is the same before all that follows
+-- `${` does not depend on what follows
 pub stop_opened : (m : Bool) (t s r : List ℕ) → 2 ≤ length t → begins (codes "${") (t ++ s) ≡ true
     → (piece_len m (t ++ r) ≡ 0) × (begins (codes "${") (t ++ r) ≡ true)
 stop_opened m t s r len e =
     let dollar = word_kept t s r (codes "${") len e in
     (if_true (begins (codes "${") (t ++ r)) _ _ _ dollar refl, dollar)
 
--- what follows content begins with the same byte, and with no piece
+-- both texts begin with the same byte, and with no piece
 abbrev pub GoesOn : Bool → List ℕ → List ℕ → Type 0
 GoesOn m s r = piece_len m s ≡ 0 → 0 < length s → (get_or r 0 0 ≡ get_or s 0 0) × (piece_len m r ≡ 0) × (0 < length r)
 
--- a cut is the same before what continues as it should
+-- a cut inside a string is the same before another text that continues the string alike
 abbrev pub IsStringAgain : Bool → List ℕ → List ℕ → List ℕ → Cut → Type 0
 IsStringAgain m t s r cut = (cut.change ≡ Stay → GoesOn m s r) → (cut.change ≡ Close → is_edge (get_or r 0 0) ≡ true) → string_cut m (t ++ r) ≡ cut
 
@@ -142,7 +142,7 @@ module _ (m : Bool) (t s r : List ℕ) (some : 0 < length t) where
       if_false (content_len m (t ++ r) == length (t ++ r)) _ _ _ (ne_eqb _ _ (λ e. omega arith))
       (if_true (nat_lt 0 (content_len m (t ++ r))) _ _ _ (lt-ltb 0 _ (omega arith)) (ap (plain TOKEN_STRING_CONTENT) (same ∙ sym len)))
 
-  -- a token inside a string
+  -- a token inside a string is the same before another text that continues the string alike
   pub string_kept : Fits t (string_cut m (t ++ s)) → IsStringAgain m t s r (string_cut m (t ++ s))
   string_kept =
       cond_both (content_len m (t ++ s) == length (t ++ s)) _ _ (λ (c : Cut). Fits t c → IsStringAgain m t s r c) (λ e fits. absurd (true≢false fits.1))

@@ -10,7 +10,7 @@ use Rattle.rnix_proof_separation.proofs.Appended.{if_true, same_byte, next_byte_
 use Rattle.rnix_proof_separation.proofs.{Appended.{apart_edge, edge_out}, KeptCuts.{Fits, KeepsCut, stay_keeps, keeps_then, rule_cases, fits_first, fits_later}}
 use Rattle.rnix_proof_separation.proofs.KeptPaths.{is_relative, relative_keeps, relative_not, slash_at, slash_inside}
 
--- a letter, when the bytes of a scheme from it on end before `:` and a byte of a URI
+-- a URI begins the text: a letter, and a scheme that ends before `:` and a byte of a URI
 abbrev is_uri_at : List ℕ → Bool
 is_uri_at x =
     is_ascii_alphabetic (get_or x 0 0) && get_or x (prefix_len (class_test Scheme) x) 0 == 58 && is_uri (get_or x (prefix_len (class_test Scheme) x + 1) 0)
@@ -21,7 +21,7 @@ scheme_uri b e = grind (arith, nat_tests)
 scheme_step : (b : ℕ) → class_test Scheme b ≡ true → class_test Step b ≡ true
 scheme_step b e = grind (arith, nat_tests)
 
--- the path characters before the first slash end where the scheme does
+-- without a slash there, the path characters before the first slash end where the scheme does
 step_at_scheme : (x : List ℕ) → get_or x (prefix_len (class_test Scheme) x) 0 ≡ 58 → (get_or x (prefix_len (class_test Step) x) 0 == 47) ≡ false
 step_at_scheme x colon =
     let n = prefix_len (class_test Scheme) x in
@@ -34,11 +34,11 @@ step_at_scheme x colon =
       ]
     ]
 
--- the rules for what begins with a letter or `_`
+-- the rules for tokens that begin with a letter or `_`
 abbrev pub name_rules : List ℕ → Cut
 name_rules x = first_that_fits (relative x ∷ uri x ∷ word x ∷ []) (one_error x)
 
--- a word of n bytes
+-- the cut of a word of `n` bytes
 abbrev word_cut : ℕ → List ℕ → Cut
 word_cut n bytes = plain (kind_of_word bytes) n
 
@@ -87,7 +87,7 @@ module _ (t s : List ℕ) (some : 0 < length t) where
       (fits_first (word (t ++ r)) _ _ (if_true (begins_word (get_or (t ++ r) 0 0)) _ _ _ (rw (same_byte t r s 0 some) first)
       (ap (λ k. Some (word_cut k (take k (t ++ r)))) end ∙ ap (λ w. Some (word_cut n w)) bytes))))
 
-  -- a path, a URI or a word
+  -- a token that begins so is a path, a URI or a word
   name_cases : begins_word (get_or (t ++ s) 0 0) ≡ true → (P : Cut → Type 0) → (is_relative (t ++ s) ≡ true → P (first_segment Relative 0 (t ++ s)))
       → (is_uri_at (t ++ s) ≡ true → P (plain TOKEN_URI (run_end is_uri 0 (t ++ s))))
       → P (word_cut (run_end (class_test Name) 0 (t ++ s)) (take (run_end (class_test Name) 0 (t ++ s)) (t ++ s))) → P (name_rules (t ++ s))
@@ -96,7 +96,7 @@ module _ (t s : List ℕ) (some : 0 < length t) where
       (λ e. rule_cases (is_uri_at (t ++ s)) _ None _ _ P uri_here
       (λ f. rule_cases (begins_word (get_or (t ++ s) 0 0)) _ None [] _ P (λ g. name) (λ g. absurd (both_ways _ g first))))
 
-  -- what begins with a letter or `_`
+  -- a token that begins with a letter or `_` is the same before white space
   pub name_keeps : begins_word (get_or (t ++ s) 0 0) ≡ true → KeepsCut name_rules t s (name_rules (t ++ s))
   name_keeps first =
       name_cases first (KeepsCut name_rules t s) (λ e fits. keeps_then (relative_keeps t s e fits) (λ r after h. fits_first (relative (t ++ r)) _ _ h))
@@ -104,7 +104,7 @@ module _ (t s : List ℕ) (some : 0 < length t) where
       (λ fits. stay_keeps refl (λ r behind. let edge = apart_edge r behind.0 in
       name_kept first fits.0 r (edge_out (class_test Name) refl (get_or r 0 0) edge) (edge_out goes_past_name refl (get_or r 0 0) edge)))
 
-  -- a name is the same before a byte that ends it
+  -- no byte of a name is one that ends it
   all_name : list_all (class_test Name) t ≡ true → (n b : ℕ) → n < length t → get_or (t ++ s) n 0 ≡ b → class_test Name b ≡ false → ⊥
   all_name names n b h is out =
       both_ways _ (list_all_at (class_test Name) t n 0 h

@@ -1,4 +1,4 @@
--- Texts that are separated, and what is not so: errors may be cut otherwise, and a comment continues to the end of its line.
+-- Texts that are written out with white space. Errors may be tokenized differently, and a comment continues to the end of its line.
 use Rattle.std.{proofs.{lemmas.Bool.eqb-false, Common.{◌≡◌, ℕ, true, List, [], ◌∷◌, refl, ap, inl, inr, lit<, length}}, specs.{Prelude.codes, Str.chars}}
 use Rattle.rnix_kinds.specs.declared.kinds.SyntaxKind.TheVariants.{TOKEN_ADD, TOKEN_COMMENT, TOKEN_ERROR, TOKEN_IDENT, TOKEN_INTERPOL_END, TOKEN_INTERPOL_START}
 use Rattle.rnix_kinds.specs.declared.kinds.SyntaxKind.TheVariants.{TOKEN_L_BRACK, TOKEN_L_PAREN, TOKEN_PATH_REL, TOKEN_R_PAREN, TOKEN_STRING_END}
@@ -69,12 +69,12 @@ comments =
     (space [] (codes "\na") 1 (codes "a") (lit< tt) refl
     (token [] (codes "a") (plain TOKEN_IDENT 1) [] [] (lit< tt) refl refl (refl, inl (refl, inl refl)) (none [])))
 
--- after a comment to the end of its line, a blank belongs to the comment
+-- a blank after a comment that begins with `#` belongs to the comment
 pub joined : solids (tokens_of (codes "#c a")) ≡ solids (tokens_of (codes "#c\na")) → ⊥
 unfolding tokens_behind cut_at normal_cut space_len chars begins_space encode
 joined e = eqb-false (length (solids (tokens_of (codes "#c a")))) (length (solids (tokens_of (codes "#c\na")))) refl (ap length e)
 
--- `a/[` and `a/ [`: a path that ends in `/` is an error
+-- `a/[` and `a/ [`: a path that ends with `/` is an error
 pub errors : AreSeparated [] (codes "a/[") (codes "a/ [")
 unfolding cut_at normal_cut space_len chars begins_space encode
 errors =
@@ -85,7 +85,7 @@ differ : solids (tokens_of (codes "a/ [")) ≡ solids (tokens_of (codes "a/[")) 
 unfolding tokens_behind cut_at normal_cut space_len chars begins_space encode
 differ e = eqb-false (length (solids (tokens_of (codes "a/ [")))) (length (solids (tokens_of (codes "a/[")))) refl (ap length e)
 
--- so it is not: the tokens are cut again, whatever they are
+-- the law does not hold of texts with errors
 pub unlimited : ((text new : List ℕ) → IsSeparated text new → solids (tokens_of new) ≡ solids (tokens_of text)) → ⊥
 unlimited claim =
     differ (claim (codes "a/[") (codes "a/ [") (record { gap = []; rest = codes "a/ ["; whole = refl; blank = refl; separated = errors }))

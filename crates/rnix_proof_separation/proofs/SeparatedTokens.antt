@@ -1,4 +1,4 @@
--- The tokens of a text that are written with white space between them are cut again.
+-- The tokens of a text that are written out with white space between them are tokenized again as the same.
 use Rattle.std.proofs.Common.{◌≡◌, ℕ, ◌<◌, ◌≤◌, Bool, true, false, not, ◌&&◌, ◌==◌, ◌⊎◌, List, [], ◌∷◌, ◌++◌, length, get_or, take, drop, IsUtf8, Option, Some}
 use Rattle.std.proofs.Common.{None, refl, sym, ap, ◌∙◌, subst, inl, inr, arith, cond, eq-eqb, length-append, length-take-le, take-append-drop}
 use Rattle.std.proofs.lemmas.{List.{take_at, drop_at}, Str.IsUtf8-drop, Bool.{cases_Bool, cond_both, true≢false, both_ways, and_parts, and_left, or_left}}
@@ -17,22 +17,22 @@ use Rattle.rnix_proof_separation.proofs.{KeptStrings.{IsStringAgain, string_kept
 use Rattle.rnix_proof_separation.proofs.{KeptOperators.word_kept, Stacks.{AreNested, nested_changed, nested_settled, normal_settled, inside_settled}}
 use Rattle.rnix_proof_separation.proofs.Stacks.{outside_settled, blanks, IsInnerCut, string_inner, path_inner}
 
--- what follows where a string or a path is open begins as before
+-- if a string or a path is open, both texts continue it alike
 abbrev Continues : Option Mode → List ℕ → List ℕ → Type 0
 Continues (Some (Quoted m)) s r = GoesOn m s r
 Continues (Some (Path start)) s r = begins (codes "${") s ≡ true → begins (codes "${") r ≡ true
 Continues mode s r = Unit {0}
 
--- what follows a token, by the modes that are open after it
+-- what follows a token: inside a string or a path both texts continue it alike, and outside a given statement holds
 record Follows (Outside : Type 0) (modes : List Mode) (s r : List ℕ) : Type 0 where
   inside : is_inside (top modes) ≡ true → Continues (top modes) s r
   outside : is_inside (top modes) ≡ false → Outside
 
--- white space follows, or a byte that may touch the token
+-- white space follows the token, or a byte that may touch it
 abbrev IsLoose : Bool → List ℕ → List ℕ → Type 0
 IsLoose normal t r = IsBehind t r ⊎ ((normal && may_touch t (get_or r 0 0)) ≡ true)
 
--- inside strings and paths no byte may
+-- inside strings and paths, no byte may touch a token
 touchless : (t r : List ℕ) → IsLoose false t r → IsBehind t r
 touchless t r (inl behind) = behind
 touchless t r (inr e) = absurd (true≢false (sym e))
@@ -40,7 +40,7 @@ touchless t r (inr e) = absurd (true≢false (sym e))
 goes_on_dollar : (s : List ℕ) → begins (codes "${") s ≡ true → path_goes_on s ≡ true
 goes_on_dollar s e = or_left _ _ e
 
--- a token after which no string is open
+-- a token after which no string is open is the same before what may follow it
 quiet_kept : (f : List ℕ → Cut) (o : List Mode) (t s r : List ℕ) (a : Cut) (change : Change) → is_inside (top o) ≡ false → Keeps f t s a change
     → Follows (IsBehind t r) (without_ended_paths (changed change o) s) s r → f (t ++ r) ≡ a
 quiet_kept f o t s r a Stay normal keeps follows =
@@ -77,7 +77,7 @@ loose_same o t s r cut outer kept touch normal after =
 path_no_dollar : (b : ℕ) → is_path b ≡ true → (b == 36) ≡ false
 path_no_dollar b e = grind (arith, nat_tests)
 
--- a token inside a path
+-- a token inside a path is the same before what may follow it
 abbrev IsPathAgain : PathStart → List ℕ → List ℕ → List ℕ → Cut → Type 0
 IsPathAgain start t s r cut =
     (cut.change ≡ Stay → begins (codes "${") s ≡ true → begins (codes "${") r ≡ true) → (cut.change ≡ Close → is_edge (get_or r 0 0) ≡ true)
@@ -101,7 +101,7 @@ path_kept start t s r some going =
       or_right _ _ first,
     )))
 
--- no path and no string is open where a change closes the last one
+-- if the innermost mode closes, and no string or path is open below it, none is open then
 closed_outside : (change : Change) (mode : Mode) (o : List Mode) (s : List ℕ) → is_inside (top o) ≡ false → change ≡ Close
     → is_inside (top (without_ended_paths (changed change (mode ∷ o)) s)) ≡ false
 closed_outside change mode o s normal e =
@@ -112,7 +112,7 @@ closed_apart : (mode : Mode) (o : List Mode) (t s r : List ℕ) (change : Change
 closed_apart mode o t s r change normal follows e =
     apart_edge r (touchless t r (follows.outside (closed_outside change mode o s normal e))).0
 
--- a token is cut again, under the same modes
+-- a token is the same under the same modes, before what may follow it
 step_kept : (o : List Mode) (t s r : List ℕ) (cut : Cut) → AreNested o → IsPathGoingOn (top o) (t ++ s) → 0 < length t → cut_at (top o) (t ++ s) ≡ cut
     → Fits t cut → is_white_space cut.kind ≡ false
     → Follows (IsLoose (is_normal o (changed cut.change o)) t r) (without_ended_paths (changed cut.change o) s) s r
@@ -144,7 +144,7 @@ step_kept (Path k ∷ o) t s r cut nested going some is fits solid follows =
 feed_blank : (b : ℕ) → (b == 10) ≡ true → (is_blank b ≡ true) × (class_test Line b ≡ false)
 feed_blank b e = (grind (arith, nat_tests), grind (arith, nat_tests))
 
--- a gap begins with white space, or nothing follows the token
+-- a byte with which white space after a token may begin is a blank, and after a comment that begins with `#` a line feed
 blank_feed : (b : ℕ) (t : List ℕ) → ends_token t b ≡ true → (is_blank b ≡ true) × (get_or t 0 0 ≡ 35 → class_test Line b ≡ false)
 blank_feed b t e = by (get_or t 0 0 == 35) refl e
   where
@@ -182,7 +182,7 @@ stop_kept m s r stop =
     (λ e size apart. (stop_closed m (take (cond m 2 1) s) (drop (cond m 2 1) s) r (length-take-le (cond m 2 1) s size)
     (ap (piece_len m) (take-append-drop (cond m 2 1) s) ∙ stop) (ap (begins (codes "${")) (take-append-drop (cond m 2 1) s) ∙ e) (apart refl)).0)
 
--- the next token inside a string
+-- the next token inside a string continues it alike in both texts
 next_string : (m : Bool) (o : List Mode) (s new : List ℕ) → AreSeparated (Quoted m ∷ o) s new → IsUtf8 s → is_inside (top o) ≡ false → GoesOn m s new
 unfolding cut_at
 next_string m o _ _ (none _) utf8 normal = λ stop some. absurd (omega arith)
@@ -202,7 +202,7 @@ next_string m o _ _ (token _ s cut gap rest some e solid isgap more) utf8 normal
       omega arith,
     )
 
--- the next token inside a path
+-- the next token inside a path continues it alike in both texts
 next_path : (k : PathStart) (o : List Mode) (s new : List ℕ) → AreSeparated (Path k ∷ o) s new → IsUtf8 s → begins (codes "${") s ≡ true
     → begins (codes "${") new ≡ true
 unfolding cut_at
@@ -226,7 +226,7 @@ continues_normal (Interpolation n ∷ o) s r normal = tt
 continues_normal (Quoted m ∷ o) s r normal = absurd (true≢false normal)
 continues_normal (Path k ∷ o) s r normal = absurd (true≢false normal)
 
--- what is written after a token inside a string or a path begins as what was there
+-- what is written after a token inside a string or a path continues it alike
 continues : (modes : List Mode) (s new : List ℕ) → AreSeparated modes s new → IsUtf8 s → AreNested modes → Continues (top (without_ended_paths modes s)) s new
 continues [] s new separated utf8 nested = tt
 continues (Interpolation n ∷ modes) s new separated utf8 nested = tt
@@ -246,7 +246,7 @@ follows_gap normal modes t s gap rest separated utf8 nested isgap = record {
   outside = λ h. gap_behind normal t gap rest (subst (λ b. IsGap b normal t gap rest) h isgap);
 }
 
--- nothing is left out where there is no gap
+-- without a gap, the tokens after the token are those of the rest
 after_nothing : (normal : Bool) (modes : List Mode) (t s gap rest : List ℕ) → (normal ≡ true → is_inside (top modes) ≡ false) → gap ≡ []
     → NeedsNoGap normal t rest → solids (tokens_under modes (gap ++ rest)) ≡ solids (tokens_under (without_ended_paths modes s) rest)
 after_nothing normal modes t s gap rest settles nothing (inl ended) =
@@ -257,7 +257,7 @@ after_nothing normal modes t s gap rest settles nothing (inr touch) =
     let free = settles (and_parts normal (may_touch t (get_or rest 0 0)) touch).0 in
     ap (λ g. solids (tokens_under modes (g ++ rest))) nothing ∙ ap (λ m. solids (tokens_under m rest)) (sym (normal_settled modes s free))
 
--- the gap is left out
+-- the tokens after the token, apart from white space, are those after the gap
 after_gap : (normal : Bool) (modes : List Mode) (t s gap rest : List ℕ) → (normal ≡ true → is_inside (top modes) ≡ false) → AreNested modes → (b : Bool)
     → is_inside (top (without_ended_paths modes s)) ≡ b → IsGap b normal t gap rest
     → solids (tokens_under modes (gap ++ rest)) ≡ solids (tokens_under (without_ended_paths modes s) rest)
@@ -278,7 +278,7 @@ space_outside (Interpolation k ∷ o) x n e = refl
 space_outside (Quoted m ∷ o) x n e = absurd (true≢false (subst IsInnerCut e (string_inner m x)).1)
 space_outside (Path k ∷ o) x n e = absurd (true≢false (subst IsInnerCut e (path_inner k x)).1)
 
--- the token and the tokens after it, before new text
+-- a text that begins with the token has this token, and those of the rest
 new_tokens : (o : List Mode) (t r : List ℕ) (cut : Cut) → cut_at (top o) (t ++ r) ≡ cut → without_ended_paths o (t ++ r) ≡ o → length t ≡ cut.len → 0 < cut.len
     → tokens_under o (t ++ r) ≡ (cut.kind, t) ∷ tokens_under (changed cut.change o) r
 new_tokens o t r cut is settled len some =
@@ -287,7 +287,7 @@ new_tokens o t r cut is settled len some =
     ∙ (ap (λ m. (cut.kind, t) ∷ tokens_under (changed cut.change m) (drop cut.len (t ++ r))) settled
     ∙ ap (λ x. (cut.kind, t) ∷ tokens_under (changed cut.change o) x) (drop_at t r cut.len len)))
 
--- the tokens of the new text
+-- the new text has the same tokens, apart from white space
 again : (modes : List Mode) (text new : List ℕ) → AreSeparated modes text new → IsUtf8 text → AreNested modes
     → have_no_error (tokens_under modes text) ≡ true → solids (tokens_under (without_ended_paths modes text) new) ≡ solids (tokens_under modes text)
 again _ _ _ (none modes) utf8 nested ok = ap solids (tokens_under-nil (without_ended_paths modes [])) ∙ sym (ap solids (tokens_under-nil modes))
@@ -322,7 +322,7 @@ again _ _ _ (token modes text cut gap rest some e solid isgap more) utf8 nested 
     ∙ again after s rest more rest_utf8 inner parts.1 in
     ap solids made ∙ (ap (λ ts. cond (is_white_space cut.kind) ts ((cut.kind, t) ∷ ts)) behind ∙ sym (ap solids list))
 
--- the law
+-- the law `separation`
 pub separated_again : (text new : List ℕ) → IsUtf8 text → have_no_error (tokens_of text) ≡ true → IsSeparated text new
     → solids (tokens_of new) ≡ solids (tokens_of text)
 separated_again text new utf8 ok separated =

@@ -1,4 +1,4 @@
--- The modes that are open: strings and paths are open only directly inside normal text.
+-- The modes that may be open: a string or a path is open only directly inside normal text.
 use Rattle.std.proofs.Common.{◌≡◌, ℕ, suc, ◌<◌, Bool, true, false, ◌==◌, nat_lt, List, [], ◌∷◌, ◌++◌, length, take, drop, Some, refl, sym, ap, ◌∙◌, subst, inl}
 use Rattle.std.proofs.{Common.{inr, arith, cond}, lemmas.Bool.{true≢false, both_ways, cond_both, cond-false, cases_lt, and_parts, and_left, or_from, lt-ltb}}
 use Rattle.std.{proofs.lemmas.Bool.Decides.nat_tests, specs.{Prelude.codes, List.list_all, Char.is_whitespace}}
@@ -11,19 +11,19 @@ use Rattle.rnix_kinds.{specs.Lexical.Tokens.{cut_at, normal_cut, tokens_under}, 
 use Rattle.{rnix_kinds.proofs.LexicalLemmas.{WordsLemmas.space_len-step, TokensLemmas.tokens_under-cut}, rnix_proof_separation.specs.Separated.is_white_space}
 use Rattle.rnix_proof_separation.specs.Separated.{solids, is_inside}
 
--- normal rules apply directly around each string and each path
+-- directly around each string and each path, normal rules apply
 abbrev pub AreNested : List Mode → Type 0
 AreNested [] = Unit {0}
 AreNested (mode ∷ modes) = (is_inside (Some mode) ≡ true → is_inside (top modes) ≡ false) × AreNested modes
 
--- a change that a token inside a string or a path makes
+-- the changes that a token inside a string or a path can make
 abbrev pub IsInner : Change → Type 0
 IsInner Stay = Unit {0}
 IsInner Close = Unit {0}
 IsInner (Open mode) = is_inside (Some mode) ≡ false
 IsInner (Count braces) = ⊥
 
--- a token there, which is no white space
+-- a token inside a string or a path makes such a change and is no white space
 abbrev pub IsInnerCut : Cut → Type 0
 IsInnerCut cut = IsInner cut.change × (is_white_space cut.kind ≡ false)
 
@@ -59,7 +59,7 @@ nested_inner Close (mode ∷ o) nested inner = nested.1
 nested_inner (Open mode) o nested inner = (λ h. absurd (both_ways _ inner h), nested)
 nested_inner (Count n) o nested inner = absurd inner
 
--- each token leaves the modes so
+-- after each token this holds of the modes
 pub nested_changed : (o : List Mode) (x : List ℕ) (cut : Cut) → AreNested o → cut_at (top o) x ≡ cut → AreNested (changed cut.change o)
 unfolding cut_at
 nested_changed [] x cut nested is = nested_normal cut.change [] nested refl
@@ -69,7 +69,7 @@ nested_changed (Quoted m ∷ o) x cut nested is =
 nested_changed (Path k ∷ o) x cut nested is =
     nested_inner cut.change (Path k ∷ o) nested (subst IsInnerCut is (path_inner k x)).0
 
--- the modes without a path that has ended
+-- outside strings and paths, no path has ended
 pub normal_settled : (o : List Mode) (x : List ℕ) → is_inside (top o) ≡ false → without_ended_paths o x ≡ o
 normal_settled [] x normal = refl
 normal_settled (Interpolation n ∷ o) x normal = refl
@@ -83,7 +83,7 @@ nested_settled (Quoted m ∷ modes) x nested = nested
 nested_settled (Path k ∷ modes) x nested =
     cond_both (path_goes_on x) _ _ AreNested (λ e. nested) (λ e. nested_settled modes x nested.1)
 
--- inside a string or a path no mode has ended
+-- inside a string or a path, no path has ended
 pub inside_settled : (modes : List Mode) (x : List ℕ) → AreNested modes → is_inside (top (without_ended_paths modes x)) ≡ true
     → without_ended_paths modes x ≡ modes
 inside_settled [] x nested inside = refl
@@ -106,7 +106,7 @@ blank_no_path b e = (grind (arith, nat_tests), grind (arith, nat_tests))
 pub blank_ends : (b : ℕ) (x : List ℕ) → is_blank b ≡ true → path_goes_on (b ∷ x) ≡ false
 blank_ends b x e = let other = blank_no_path b e in or_from _ _ (and_left _ _ other.1) other.0
 
--- outside strings and paths the same modes are open before white space
+-- outside strings and paths, the same modes are open before white space
 pub outside_settled : (modes : List Mode) (x : List ℕ) (b : ℕ) (y : List ℕ) → AreNested modes → is_inside (top (without_ended_paths modes x)) ≡ false
     → is_blank b ≡ true → without_ended_paths modes (b ∷ y) ≡ without_ended_paths modes x
 outside_settled [] x b y nested outside e = refl
@@ -121,7 +121,7 @@ outside_settled (Path k ∷ modes) x b y nested outside e =
     by true h = absurd (true≢false h)
     by false h = refl
 
--- normal rules where no string and no path is open
+-- the normal rules apply where no string and no path is open
 pub normal_at : (o : List Mode) (x : List ℕ) → is_inside (top o) ≡ false → cut_at (top o) x ≡ normal_cut (top o) x
 unfolding cut_at
 normal_at [] x normal = refl
@@ -133,7 +133,7 @@ blank_is : (b : ℕ) → is_blank b ≡ true → (b < 128) × (is_whitespace b �
 blank_is b e = (grind (arith, nat_tests), grind (arith, nat_tests))
 
 module _ (o : List Mode) (normal : is_inside (top o) ≡ false) where
-  -- the tokens after white space
+  -- white space has no effect on the tokens after it
   after_space : (x : List ℕ) (n : ℕ) → 0 < length x → 0 < n → cut_at (top o) x ≡ plain TOKEN_WHITESPACE n
       → solids (tokens_under o x) ≡ solids (tokens_under o (drop n x))
   after_space x n some more is =
@@ -147,7 +147,7 @@ module _ (o : List Mode) (normal : is_inside (top o) ≡ false) where
       let fits : nat_lt 0 (space_len x) ≡ true = lt-ltb 0 (space_len x) some in
       rw fits refl
 
-  -- all white space at the front is left out
+  -- without the white space at its beginning, a text has the same tokens apart from white space
   all_space : (x : List ℕ) → solids (tokens_under o (drop (space_len x) x)) ≡ solids (tokens_under o x)
   all_space [] = ap (λ k. solids (tokens_under o (drop k []))) (space_len-stop [] (omega arith) refl)
   all_space (b ∷ x) =

@@ -1,4 +1,4 @@
--- A bracket, a separator or a name is the same before what may touch it.
+-- A bracket, a separator or a name is the same before a byte that may touch it.
 use Rattle.std.proofs.Common.{◌≡◌, ℕ, ◌<◌, Bool, true, not, ◌&&◌, ◌==◌, nat_lt, List, ◌++◌, length, get_or, Option, Some, refl, sym, ap, ◌∙◌, subst, inl, inr}
 use Rattle.std.proofs.{Common.{arith, eqb-true}, lemmas.{Bool.{or_cases, and_parts, both_ways, not-true, Decides.nat_tests}, List.get_or_append_left}}
 use Rattle.{std.specs.List.{list_all, prefix_len}, rnix_kinds.specs.declared.kinds.SyntaxKind.{SyntaxKind, TheVariants.{TOKEN_AT, TOKEN_COLON, TOKEN_COMMA}}}
@@ -10,11 +10,11 @@ use Rattle.{rnix_kinds.proofs.LexicalLemmas.FirstBytes.normal-opening_brace, rni
 use Rattle.rnix_proof_separation.proofs.{KeptCuts.{fits_first, fits_later}, KeptPaths.relative_not, KeptComments.opener_kept, KeptWords.name_touches}
 use Rattle.rnix_proof_separation.specs.Separated.{is_bracket, ends_name, may_touch}
 
--- what begins with the byte is this token alone
+-- outside strings and paths, a text that begins with this byte has it as its first token
 abbrev IsAlone : Option Mode → ℕ → SyntaxKind → Type 0
 IsAlone top b kind = (x : List ℕ) → get_or x 0 0 ≡ b → normal_cut top x ≡ plain kind 1
 
--- a byte that no rule names but that of the operators
+-- the byte begins only operators
 abbrev is_symbol : ℕ → Bool
 is_symbol b =
     nat_lt 32 b && nat_lt b 127 && not (begins_word b) && not (begins_step b) && not (begins_opener b) && not (b == 35) && not (b == 47) && not (b == 60)

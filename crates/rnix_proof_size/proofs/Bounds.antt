@@ -1,5 +1,5 @@
--- Bounds on the nodes of what is left of a row, in terms of its tokens: where more items follow, and where none do. The proof needs these tables;
--- that the rows respect them is computed.
+-- Bounds on the nodes of the rest of a row, in terms of its tokens: before more items, and at the end of the text. The proof needs these tables;
+-- that all rows respect them is computed.
 use Rattle.std.proofs.Common.{◌≡◌, ℕ, ◌+◌, ◌-◌, Bool, true, ◌||◌, ◌&&◌, max, min, if◌then◌else◌, nat_le, refl, ap, sym}
 use Rattle.rnix_kinds.specs.declared.kinds.SyntaxKind.{SyntaxKind, TheVariants.{NODE_IDENT, NODE_IDENT_PARAM, NODE_INTERPOL, NODE_PATTERN, NODE_PAT_BIND}}
 use Rattle.{rnix_kinds.specs.SyntaxKind.is_token, rnix_green.specs.Equality.same_kind, rnix_grammar.specs.declared.rules.Part.{Part, TheVariants.{Child, Atom}}}
@@ -8,7 +8,7 @@ use Rattle.rnix_grammar.specs.{declared.rules.Part.TheVariants.{PathPieces, Form
 use Rattle.{rnix_grammar.specs.{Rules.{◌or◌, may_end}, Tables.depth_limit}, rnix_proof_lemmas.proofs.Basics.true_is_not_false}
 use Rattle.rnix_proof_rows.proofs.RowsWithoutAttrpath.{begins_with_child}
 
--- no counted operand is allowed inside so many counted positions
+-- no counted operand is allowed inside `d` counted positions
 abbrev pub is_full : ℕ → Bool
 is_full d = nat_le depth_limit d
 
@@ -16,7 +16,7 @@ is_full d = nat_le depth_limit d
 abbrev child_surplus : SyntaxKind → ℕ
 child_surplus kind = if is_token kind then 2 else (if same_kind NODE_IDENT kind then 1 else 0)
 
--- the same for a part
+-- the same for a part of a row
 abbrev part_surplus : Part → ℕ
 part_surplus (Child kind) = child_surplus kind
 part_surplus (Wanted kind) = child_surplus kind
@@ -35,7 +35,7 @@ part_surplus (Operand n counted) = 1
 part_surplus Attr = 1
 part_surplus part = 0
 
--- the same for what is left of a row, before more items
+-- the same for the rest of a row, before more items
 abbrev pub surplus : Row → ℕ
 surplus never = 0
 surplus done = 0
@@ -48,7 +48,7 @@ part_spare full (Operand n counted) = if full && counted then 1 else 0
 part_spare full Attrpath = 1
 part_spare full part = 0
 
--- the same for what is left of a row
+-- the same for the rest of a row
 abbrev pub spare : Bool → Row → ℕ
 spare full (p · r) = if may_end (p · r) || begins_with_child (p · r) then 0 else part_spare full p + spare full r
 spare full r = 0
@@ -62,7 +62,7 @@ child_excess full NODE_PATTERN = 2
 child_excess full NODE_INTERPOL = if full then 2 else 3
 child_excess full kind = 0
 
--- the same for a part
+-- the same for a part of a row
 abbrev part_excess : Bool → Part → ℕ
 part_excess full (Child kind) = child_excess full kind
 part_excess full (EndOr kind) = child_excess full kind
@@ -84,7 +84,7 @@ part_excess full (First n) = 0
 part_excess full (Suffix kind) = 0
 part_excess full part = 1
 
--- the same for what is left of a row, at the end of the text
+-- the same for the rest of a row, at the end of the text
 abbrev pub excess : Bool → Row → ℕ
 excess full never = 0
 excess full done = 0

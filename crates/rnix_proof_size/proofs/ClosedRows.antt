@@ -1,4 +1,4 @@
--- The nodes of a forest that is read before more items are at most twice its items, less the row's surplus.
+-- A forest that is read before more items has at most twice as many nodes as items, less the row's surplus.
 use Rattle.std.proofs.{Common.{◌≡◌, ◌≤◌, ℕ, suc, ◌+◌, ◌*◌, true, List, [], ◌∷◌, ◌++◌, length, refl, ap, sym, ◌∙◌, subst, arith}, lemmas.List.length-append}
 use Rattle.{rnix_kinds.specs.declared.kinds.SyntaxKind.{SyntaxKind, TheVariants.NODE_LITERAL}, rnix_grammar.specs.{Fault.Fault, AnnotatedForest.{Token, Note}}}
 use Rattle.rnix_grammar.specs.{AnnotatedForest.{Stray, Unwanted, Extra, DoubleBind, TooDeep, AnnotatedForest, is_some, row_of, tokens_in, leaf_kind}, Rules.Row}
@@ -7,7 +7,7 @@ use Rattle.rnix_proof_lemmas.proofs.{AnnotatedForestLemmas.tokens_in-row_of, Bas
 use Rattle.rnix_proof_lemmas.proofs.{ReachableRows.{known_second, known_after, known_past, known_wrong}, ViableRows.{end_viable, reads_viable, reads_row}}
 use Rattle.rnix_proof_size.proofs.{Counts.{nodes, nodes_row}, Bounds.{surplus, ended_surplus}, NodeBounds.{leaf_kept, node_kept, run_kept}}
 
--- some items after others are some
+-- a list that ends with a nonempty one is not empty
 pub some_right : (ts us : List Token) → is_some us ≡ true → is_some (ts ++ us) ≡ true
 some_right [] us h = h
 some_right (t ∷ ts) us h = refl
@@ -19,11 +19,11 @@ pub some_length : (ts : List Token) → is_some ts ≡ true → 1 ≤ length ts
 some_length [] h = absurd (true_is_not_false (sym h))
 some_length (t ∷ ts) h = omega arith
 
--- the nodes and the tokens of an error node and of what follows
+-- the tokens of an error node and of the trees after it
 pub row_tokens : (ts : List Token) (f : AnnotatedForest) → length (tokens_in (row_of ts) ++ tokens_in f) ≡ length ts + length (tokens_in f)
 row_tokens ts f = length-append (tokens_in (row_of ts)) (tokens_in f) ∙ ap (λ xs. length xs + length (tokens_in f)) (tokens_in-row_of ts)
 
--- before more items: an error node has items, and no more are needed than with a name in its place
+-- before more items, an error node contains items, and the row's surplus falls by at most one
 record Kept (q r : Row) (ts : List Token) : Type 0 where
   pub items : 1 ≤ length ts
   pub rest : surplus q ≤ suc (surplus r)
@@ -41,7 +41,7 @@ wrong_kept Extra d q r ts vs w n l s = nothing s w.1
 wrong_kept DoubleBind d q r ts vs w n l s = absurd w
 wrong_kept TooDeep d q r ts vs w n l s = nothing s w.0
 
--- so many nodes have a forest and what follows
+-- the bound for a node and the trees after it, from those for its children and for these trees
 sum_kept : (c f : AnnotatedForest) (a b q : ℕ) → nodes c + a ≤ 2 * length (tokens_in c) → nodes f + b ≤ 2 * length (tokens_in f) → suc q ≤ a + b
     → suc (nodes c + nodes f) + q ≤ 2 * length (tokens_in c ++ tokens_in f)
 sum_kept c f a b q inside rest more = let all = length-append (tokens_in c) (tokens_in f) in omega (arith, all, inside, rest, more)
@@ -53,7 +53,7 @@ wrong_sum ts f q r rest some less =
     let all = row_tokens ts f in
     omega (arith, all, none, rest, some, less)
 
--- where more items follow, the nodes are at most twice the items, less the row's surplus
+-- before more items, a forest has at most twice as many nodes as items, less the row's surplus
 pub closed : {p : SyntaxKind} {d n : ℕ} {q q' : Row} {b : AnnotatedForest} {us : List Token} {f : AnnotatedForest} {es : List Fault}
     → Reads p d n q q' b us f es → IsKnown p q → may_end q' ≡ true → is_some us ≡ true → nodes f + surplus q ≤ 2 * length (tokens_in f)
 closed {q = q} end i e s = let none : surplus q ≡ 0 = ended_surplus q e in omega (arith, none)

@@ -11,12 +11,12 @@ nodes (token k t f) = nodes f
 nodes (branch k c f) = suc (nodes c + nodes f)
 nodes (fault n c f) = suc (nodes c + nodes f)
 
--- a node and what follows it
+-- the elements of a node and of the trees after it
 two_rows : (c f : AnnotatedForest) (m n : ℕ) → m ≡ nodes c + length (tokens_in c) → n ≡ nodes f + length (tokens_in f)
     → suc (m + n) ≡ suc (nodes c + nodes f) + length (tokens_in c ++ tokens_in f)
 two_rows c f m n inside rest = let all = length-append (tokens_in c) (tokens_in f) in omega (arith, inside, rest, all)
 
--- the elements are the nodes and the leaves
+-- the elements of a forest are its nodes and its leaves
 pub elements : (f : AnnotatedForest) → element_count (forget f) ≡ nodes f + length (tokens_in f)
 elements blank = refl
 elements (token k t f) = let rest : element_count (forget f) ≡ nodes f + length (tokens_in f) = elements f in omega (arith, rest)
@@ -28,7 +28,7 @@ pub nodes_row : (ts : List Token) → nodes (row_of ts) ≡ 0
 nodes_row [] = refl
 nodes_row (t ∷ ts) = nodes_row ts
 
--- trivia are leaves
+-- a leaf that may be trivia adds no node
 nodes_if : (w : Bool) (k : SyntaxKind) (t : Token) (f : AnnotatedForest) → nodes (token_if w k t f) ≡ nodes f
 nodes_if true k t f = refl
 nodes_if false k t f = refl
@@ -41,12 +41,12 @@ nodes_without_trivia (branch k c f) =
 nodes_without_trivia (fault n c f) =
     ap (λ n. suc (n + nodes (without_trivia f))) (nodes_without_trivia c) ∙ ap (λ n. suc (nodes c + n)) (nodes_without_trivia f)
 
--- as many tokens are in a text as there are
+-- a text has as many placed tokens as tokens
 pub length_placed : (n : ℕ) (ls : List Lexeme) → length (placed_from n ls) ≡ length ls
 length_placed n [] = refl
 length_placed n (l ∷ ls) = ap suc (length_placed (n + length l.1) ls)
 
--- items are tokens
+-- there are at most as many items as tokens
 item_counted : (w : Bool) (t : Token) (ts us : List Token) → length ts ≤ length us → length (item_if w t ts) ≤ suc (length us)
 item_counted true t ts us h = omega (arith, h)
 item_counted false t ts us h = omega (arith, h)

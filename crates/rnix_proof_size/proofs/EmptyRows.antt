@@ -1,4 +1,4 @@
--- The nodes of a forest without tokens at the end of the text: what is nested too deep, and attribute paths.
+-- The nodes of a forest without tokens at the end of the text: those of what is nested too deep, and attribute paths.
 use Rattle.std.proofs.Common.{◌≡◌, ◌≤◌, ℕ, suc, ◌+◌, Bool, true, false, List, [], ◌++◌, refl, ap, sym, ◌∙◌, subst, arith}
 use Rattle.{rnix_kinds.specs.declared.kinds.SyntaxKind.{SyntaxKind, TheVariants.NODE_LITERAL}, rnix_grammar.specs.declared.rules.Part.TheVariants.Operand}
 use Rattle.rnix_grammar.specs.{declared.rules.Part.TheVariants.Many, Fault.Fault, AnnotatedForest.{Token, Note, Stray, Unwanted, Extra, DoubleBind, TooDeep}}
@@ -10,7 +10,7 @@ use Rattle.{rnix_proof_lemmas.proofs.ViableRows.{end_viable, reads_viable, reads
 use Rattle.{rnix_proof_rows.proofs.RowsWithoutAttrpath.{no_attrpath_row, row_some}, rnix_proof_size.proofs.{Counts.{nodes, nodes_row}, Bounds.{is_full, spare}}}
 use Rattle.rnix_proof_size.proofs.{NodeBounds.{missing_spare, deep_spare, path_spare}, ClosedRows.nothing}
 
--- an error node without items
+-- an error node without items is within the row's bound
 empty_node : {i : SyntaxKind} (note : Note) (d n : ℕ) (q r : Row) (vs : List Token) → IsKnown i q → IsExpected q n [] false → IsWrong note d q r [] vs
     → suc (spare (is_full d) r) ≤ spare (is_full d) q
 empty_node Stray d n q r vs i x w = absurd (omega (arith, w.0))
@@ -26,7 +26,7 @@ empty_node TooDeep d n q r vs i x w =
     asked (Many m closer · r) c x = x
     asked _ c x = absurd (true_is_not_false (sym c))
 
--- a node without tokens is an attribute path
+-- a node without tokens is an attribute path, and within the row's bound
 path_sum : {i : SyntaxKind} (v w : Bool) (q : Row) (k : SyntaxKind) (c f : AnnotatedForest) → IsKnown i q → is_viable (after q k) ≡ true → has_row k ≡ true
     → (has_no_attrpath q ≡ true → ⊥) → nodes c ≤ spare v (row k) → nodes f ≤ spare w (after q k) → suc (nodes c + nodes f) ≤ spare w q
 path_sum v w q k c f i l h g inside rest = by (has_no_attrpath q) refl
@@ -37,7 +37,7 @@ path_sum v w q k c f i l h g inside rest = by (has_no_attrpath q) refl
         let more : suc (spare v (row k) + spare w (after q k)) ≤ spare w q = path_spare v w q k i l h b in
         omega (arith, inside, rest, more)
 
--- where no token is left, the nodes are those that the row may have without
+-- if no token is left, a forest has at most as many nodes as the row's bound allows
 pub empty : {p : SyntaxKind} {d n : ℕ} {q q' : Row} {b : AnnotatedForest} {us : List Token} {f : AnnotatedForest} {es : List Fault}
     → Reads p d n q q' b us f es → IsKnown p q → may_end q' ≡ true → us ≡ [] → tokens_in f ≡ [] → (has_no_attrpath q ≡ true → HasNoNode f)
     → nodes f ≤ spare (is_full d) q

@@ -1,4 +1,4 @@
--- How the bounds go along a row at the end of the text: the last child that has tokens, and those before it.
+-- The bounds along a row at the end of the text, for the last child that has tokens and those before it.
 use Rattle.std.proofs.Common.{◌≡◌, ◌≤◌, ◌<◌, ℕ, suc, ◌+◌, Bool, true, false, ◌&&◌, List, Some, if◌then◌else◌, nat_le, refl, ap, sym, ◌∙◌}
 use Rattle.{std.proofs.lemmas.Bool.{and_from, and_parts, lt-leb}, rnix_kinds.specs.declared.kinds.SyntaxKind.{SyntaxKind, TheVariants.NODE_LITERAL}}
 use Rattle.{rnix_kinds.proofs.AllKinds.implied, rnix_grammar.specs.{declared.rules.Part.TheVariants.{BoundAlready, TextEnd}, Tables.depth_limit, Rules.Row}}
@@ -7,7 +7,7 @@ use Rattle.rnix_proof_lemmas.proofs.{RowKinds.has_row, ReachableRows.{IsKnown, i
 use Rattle.{rnix_proof_rows.proofs.RowsWithoutAttrpath.{begins_with_child, is_same, same_true}, rnix_proof_size.proofs.Bounds.{surplus, spare, excess, is_full}}
 use Rattle.rnix_proof_size.proofs.NodeBounds.{at_most, is_false, both_answers, each_child, each_node, behind}
 
--- unless a test holds
+-- the second test, unless the first is true
 abbrev unless : Bool → Bool → Bool
 unless v w = if v then true else w
 
@@ -15,7 +15,7 @@ was : (v w : Bool) → unless v w ≡ true → v ≡ false → w ≡ true
 was true w h e = absurd (true_is_not_false e)
 was false w h e = h
 
--- one item and so many nodes lead along a row: before no more items, and before some
+-- one item with `n` nodes is within the bounds along a row, as the last one and before others
 pub record Goes (w : Bool) (n : ℕ) (q r : Row) : Type 0 where
   pub none : begins_with_child r ≡ false → n + spare w r ≤ excess w q
   pub some : n + excess w r ≤ 2 + excess w q
@@ -28,7 +28,7 @@ goes_so w n q r h =
     let both = and_parts (unless (begins_with_child r) (nat_le (n + spare w r) (excess w q))) (nat_le (n + excess w r) (2 + excess w q)) h in
     record { none = λ e. at_most _ _ (was (begins_with_child r) _ both.0 e); some = at_most _ _ both.1 }
 
--- a leaf
+-- a leaf is within the bounds
 abbrev leaf_passes : Row → SyntaxKind → Bool
 leaf_passes q k = goes false 0 q (after q k) && goes true 0 q (after q k)
 
@@ -37,7 +37,7 @@ leaf_goes {i} w q k n l =
     goes_so w 0 q (after q k) (both_answers (λ w. goes w 0 q (after q k))
     (implied (λ k. is_viable (after q k)) (leaf_passes q) (every_known (each_child leaf_passes) (λ i. refl) refl i q n) k l) w)
 
--- a run
+-- a run is within the bounds
 abbrev run_passes : Row → Row → Bool
 run_passes q r = goes false 1 q r && goes true 1 q r
 
@@ -46,11 +46,11 @@ run_goes {i} {q} {r} w m n =
     goes_so w 1 q r (both_answers (λ w. goes w 1 q r)
     (sym (ap (behind (run_passes q)) m) ∙ every_known (λ i q. behind (run_passes q) (run_at q)) (λ i. refl) refl i q n) w)
 
--- an operand is allowed, by whether no more counted ones are
+-- an operand may be read, whether or not more counted ones may be
 abbrev pub has_room : Bool → Bool → Bool
 has_room w counted = is_false (w && counted)
 
--- a stray item
+-- a stray item is within the bounds
 abbrev stray_passes : Bool → SyntaxKind → Row → Bool
 stray_passes w i q = if is_viable (after q NODE_LITERAL) && has_room w (counts q) then goes w 1 q (after q NODE_LITERAL) else true
 
@@ -60,7 +60,7 @@ stray_goes {i} w q n l h =
     goes_so w 1 q (after q NODE_LITERAL) (sym (ap (λ z. if z then goes w 1 q (after q NODE_LITERAL) else true) (and_from _ _ l h))
     ∙ both_answers (λ w. stray_passes w i q) (every_known (λ i q. stray_passes false i q && stray_passes true i q) (λ i. refl) refl i q n) w)
 
--- what is nested too deep
+-- what is nested too deep is within the bounds
 abbrev deep_passes : SyntaxKind → Row → Bool
 deep_passes i q = if counts q then nat_le (suc (spare true (after q NODE_LITERAL))) (excess true q) else true
 
@@ -69,7 +69,7 @@ deep_goes {i} q n c =
     at_most _ _ (sym (ap (λ w. if w then nat_le (suc (spare true (after q NODE_LITERAL))) (excess true q) else true) c)
     ∙ every_known deep_passes (λ i. refl) refl i q n)
 
--- items after the root's expression, and a second name
+-- items after the root's expression, and a second name, are within the bounds
 pub extra_goes : (w : Bool) → Goes w 1 (TextEnd · done) (TextEnd · done)
 extra_goes true = goes_so true 1 (TextEnd · done) (TextEnd · done) refl
 extra_goes false = goes_so false 1 (TextEnd · done) (TextEnd · done) refl
@@ -78,12 +78,12 @@ pub second_goes : (w : Bool) → suc (excess w second_name) ≤ excess w (BoundA
 second_goes true = at_most _ _ refl
 second_goes false = at_most _ _ refl
 
--- a node: whether a place inside it, and one beside it, have no room
+-- whether no more counted operands may be inside a node, or beside it
 abbrev pub fits_inside : Bool → Bool → Bool → Bool
 fits_inside true v w = is_false w
 fits_inside false v w = is_same v w
 
--- the node leads along a row: as the last, and before some items
+-- a node is within the bounds along a row, as the last one and before others
 pub record NodeGoes (v w : Bool) (q : Row) (k : SyntaxKind) : Type 0 where
   pub none : begins_with_child (after q k) ≡ false → suc (excess v (row k) + spare w (after q k)) ≤ excess w q
   pub some : suc (excess w (after q k)) ≤ excess w q + surplus (row k)
@@ -110,7 +110,7 @@ node_goes {i} v w q k n l h s =
     (sym (ap (λ z. if z then last_passes v w q k && nat_le (suc (excess w (after q k))) (excess w q + surplus (row k)) else true) s) ∙ all) in
     record { none = λ e. at_most _ _ (was (begins_with_child (after q k)) _ both.0 e); some = at_most _ _ both.1 }
 
--- the places inside an operand that counts are one more
+-- inside a counted operand the limit is not yet reached if it was not before
 open_depths : (d : ℕ) → d < depth_limit → is_full d ≡ false
 open_depths d h = lt-leb depth_limit d h
 

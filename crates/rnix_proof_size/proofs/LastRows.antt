@@ -1,4 +1,4 @@
--- The nodes of a forest with tokens at the end of the text.
+-- The nodes of a forest with tokens, at the end of the text.
 use Rattle.std.proofs.Common.{◌≡◌, ◌≤◌, ℕ, suc, ◌+◌, ◌*◌, Bool, true, false, List, [], ◌∷◌, ◌++◌, length, refl, ap, sym, ◌∙◌, subst, append-nil, arith}
 use Rattle.{std.proofs.lemmas.List.length-append, rnix_kinds.specs.declared.kinds.SyntaxKind.SyntaxKind}
 use Rattle.rnix_grammar.specs.{declared.rules.Part.TheVariants.BoundAlready, Fault.Fault, AnnotatedForest.{Token, Note, Stray, Unwanted, Extra, DoubleBind}}
@@ -11,7 +11,7 @@ use Rattle.rnix_proof_size.proofs.{Bounds.{is_full, surplus, spare, excess}, Emp
 use Rattle.rnix_proof_size.proofs.EndBounds.{Goes, NodeGoes, leaf_goes, run_goes, stray_goes, deep_goes, extra_goes, second_goes, node_goes, room_inside}
 use Rattle.rnix_proof_size.proofs.EndBounds.{room_here}
 
--- what follows in a forest: no token, or some
+-- the rest of a forest has no tokens, or some, and is within its bound
 record Tail (w : Bool) (r : Row) (f : AnnotatedForest) : Type 0 where
   pub begins : tokens_in f ≡ [] → begins_with_child r ≡ false
   pub none : tokens_in f ≡ [] → nodes f ≤ spare w r
@@ -31,12 +31,12 @@ tail {q = q} {f = f} h i e u more = record {
     by true b t = nothing (row_some h i b e) t
     by false b t = b
 
--- either is so
+-- a statement about tokens, from both cases
 ends : {A : Type 0} (ts : List Token) → (ts ≡ [] → A) → (is_some ts ≡ true → A) → A
 ends [] none some = none refl
 ends (t ∷ ts) none some = some refl
 
--- a leaf and what follows
+-- the bound for a leaf and the trees after it
 leaf_sum : (w : Bool) (q r : Row) (f : AnnotatedForest) → Goes w 0 q r → Tail w r f → nodes f + 2 ≤ 2 * suc (length (tokens_in f)) + excess w q
 leaf_sum w q r f g t = ends (tokens_in f) ends_here goes_on
   where
@@ -52,7 +52,7 @@ leaf_sum w q r f g t = ends (tokens_in f) ends_here goes_on
         let less : 0 + excess w r ≤ 2 + excess w q = g.some in
         omega (arith, rest, less)
 
--- an error node over items, and what follows
+-- the bound for an error node and the trees after it
 wrong_sum : (w : Bool) (q r : Row) (ts : List Token) (f : AnnotatedForest) → Goes w 1 q r → Tail w r f → 1 ≤ length ts
     → suc (nodes (row_of ts) + nodes f) + 2 ≤ 2 * length (tokens_in (row_of ts) ++ tokens_in f) + excess w q
 wrong_sum w q r ts f g t one = ends (tokens_in f) ends_here goes_on
@@ -75,7 +75,7 @@ wrong_sum w q r ts f g t one = ends (tokens_in f) ends_here goes_on
         let less : 1 + excess w r ≤ 2 + excess w q = g.some in
         omega (arith, one, bare, all, rest, less)
 
--- a node and what follows: the text ends in it, or later
+-- the bound for a node and the trees after it: the text ends in the node, or later
 node_sum : (v w : Bool) (q : Row) (k : SyntaxKind) (c f : AnnotatedForest) → NodeGoes v w q k → Tail w (after q k) f
     → (tokens_in f ≡ [] → nodes c + 2 ≤ 2 * length (tokens_in c) + excess v (row k))
     → (is_some (tokens_in f) ≡ true → nodes c + surplus (row k) ≤ 2 * length (tokens_in c))
@@ -99,7 +99,7 @@ node_sum v w q k c f g t inside before = ends (tokens_in f) ends_here goes_on
         let less : suc (excess w (after q k)) ≤ excess w q + surplus (row k) = g.some in
         omega (arith, all, rest, own, less)
 
--- where an error node with items leads; what is nested too deep leads to the end of the text
+-- the bound along the row for an error node with items; what is nested too deep is the last
 wrong_last : {i : SyntaxKind} (note : Note) (d : ℕ) (q r : Row) (ts : List Token) (f : AnnotatedForest) (us : List Token)
     → IsWrong note d q r ts (tokens_in f ++ us) → IsKnown i q → is_viable r ≡ true → us ≡ []
     → Tail (is_full d) r f → is_some (tokens_in (row_of ts) ++ tokens_in f) ≡ true
@@ -125,14 +125,14 @@ wrong_last TooDeep d q r ts f us w n l u t s =
     let behind : length (tokens_in f) ≡ 0 = ap length none in
     omega (arith, few, own, bare, all, one, behind)
 
--- the node in which the text ends has tokens
+-- the node in which the text ends contains tokens
 some_inside : (c f : AnnotatedForest) → is_some (tokens_in c ++ tokens_in f) ≡ true → tokens_in f ≡ [] → is_some (tokens_in c) ≡ true
 some_inside c f s e = ap is_some (sym (append-nil (tokens_in c)) ∙ ap (λ ts. tokens_in c ++ ts) (sym e)) ∙ s
 
 over : (f : AnnotatedForest) {us : List Token} → us ≡ [] → tokens_in f ≡ [] → tokens_in f ++ us ≡ []
 over f u e = ap (λ us. tokens_in f ++ us) u ∙ append-nil (tokens_in f) ∙ e
 
--- at the end of the text the nodes are at most twice the tokens, and few more
+-- at the end of the text, a forest has at most twice as many nodes as tokens, and a few more
 pub last : {p : SyntaxKind} {d n : ℕ} {q q' : Row} {b : AnnotatedForest} {us : List Token} {f : AnnotatedForest} {es : List Fault}
     → Reads p d n q q' b us f es → IsKnown p q → may_end q' ≡ true → us ≡ [] → is_some (tokens_in f) ≡ true
     → nodes f + 2 ≤ 2 * length (tokens_in f) + excess (is_full d) q

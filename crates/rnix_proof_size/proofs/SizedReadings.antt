@@ -1,4 +1,4 @@
--- The elements of a reading are at most three for each token, and three more.
+-- A reading has at most three elements for each token, plus three.
 use Rattle.std.proofs.Common.{◌≡◌, ◌≤◌, suc, ◌+◌, ◌*◌, List, [], ◌∷◌, length, refl, ap, ◌∙◌, arith}
 use Rattle.{rnix_kinds.specs.{declared.kinds.SyntaxKind.TheVariants.NODE_ROOT, Lexical.Tokens.Lexeme}, rnix_green.specs.{Forest.element_count, Tree.Tree}}
 use Rattle.{rnix_green.specs.Tree.forest_of, rnix_grammar.specs.{Fault.Fault, AnnotatedForest.{Token, AnnotatedForest, forget, tokens_in, is_some}}}
@@ -6,7 +6,7 @@ use Rattle.rnix_grammar.specs.{AnnotatedForest.{without_trivia, placed_from}, La
 use Rattle.{rnix_proof_lemmas.proofs.{ReachableRows.known_row, ReportLemmas.without_trivia_tokens}, rnix_proof_rows.proofs.RowsWithoutAttrpath.no_attrpath_row}
 use Rattle.rnix_proof_size.proofs.{Counts.{nodes, elements, nodes_without_trivia, length_placed, length_items}, EmptyRows.empty, LastRows.last}
 
--- the nodes below the root are at most twice the items, and two more
+-- below the root there are at most two nodes for each item, plus two
 whole : (f : AnnotatedForest) (es : List Fault) → ReadsRoot f es → nodes f ≤ 2 * length (tokens_in f) + 2
 whole f es r = by (tokens_in f) refl
   where
@@ -18,7 +18,7 @@ whole f es r = by (tokens_in f) refl
         let some : nodes f + 2 ≤ 2 * length (tokens_in f) + 4 = last r (known_row NODE_ROOT) refl refl (ap is_some e) in
         omega (arith, some)
 
--- the elements of the tree, its root among them
+-- the tree has at most two elements for each item and one for each token, plus three, the root included
 pub sized : (ls : List Lexeme) (tree : Tree) (faults : List Fault) → IsReading ls tree faults
     → element_count (forest_of tree) ≤ 2 * length (items (placed_from 0 ls)) + length ls + 3
 sized ls tree faults r =
@@ -32,7 +32,7 @@ sized ls tree faults r =
     let tree_is : element_count (forest_of tree) ≡ suc (element_count (forget f) + 0) = ap (λ (t : Tree). element_count (forest_of t)) r.tree_is in
     omega (arith, bound, count, same, leaves, parts, tree_is)
 
--- so they are at most three for each token, and three more
+-- so it has at most three elements for each token, plus three
 pub sized_by_tokens : (ls : List Lexeme) (tree : Tree) (faults : List Fault) → IsReading ls tree faults → element_count (forest_of tree) ≤ 3 * length ls + 3
 sized_by_tokens ls tree faults r =
     let bound : element_count (forest_of tree) ≤ 2 * length (items (placed_from 0 ls)) + length ls + 3 = sized ls tree faults r in

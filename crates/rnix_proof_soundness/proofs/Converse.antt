@@ -1,4 +1,4 @@
--- A text that is read without errors of its end, repeated names and accepted extensions is an expression of the strict grammar, once its errors are repaired.
+-- A text that is read without errors at its end, repeated names and accepted extensions is an expression of the strict grammar, once its errors are repaired.
 use Rattle.std.proofs.Common.{◌≡◌, true, Some, None, Option, refl, ap, sym, ◌∙◌, subst, ℕ, Bool, false, List, [], ◌∷◌, ◌++◌, if◌then◌else◌, ◌&&◌, ◌||◌, ◌+◌}
 use Rattle.{std.{proofs.{Common.arith, lemmas.Bool.and_parts}, specs.Str.bytes_eq}, rnix_kinds.specs.declared.kinds.SyntaxKind.SyntaxKind}
 use Rattle.rnix_kinds.{specs.{declared.kinds.SyntaxKind.TheVariants.{TOKEN_OR, NODE_PAT_ENTRY, NODE_ROOT}, SyntaxKind.is_fn_arg}, proofs.AllKinds.implied}
@@ -15,17 +15,17 @@ use Rattle.{rnix_proof_lemmas.proofs.RowKinds.has_row, rnix_proof_soundness.proo
 use Rattle.rnix_proof_soundness.proofs.{TokenDependentForms.{sound_made, sound_tokens}, SoundRows.{Skips, IsEntry, Tokens, Calls, IsSound, sound_row}}
 use Rattle.rnix_grammar.specs.declared.rules.Part.TheVariants as p
 
--- errors of two forests
+-- if no error of two joined lists passes a test, none of the first does
 misses_first : (test : Fault → Bool) (ds es : List Fault) → Lacks test (ds ++ es) → Lacks test ds
 misses_first test [] es h = tt
 misses_first test (d ∷ ds) es h = (h.0, misses_first test ds es h.1)
 
--- and the second
+-- and none of the second
 misses_rest : (test : Fault → Bool) (ds es : List Fault) → Lacks test (ds ++ es) → Lacks test es
 misses_rest test [] es h = h
 misses_rest test (d ∷ ds) es h = misses_rest test ds es h.1
 
--- what is missing is reported by an error at the end of the text
+-- the error for a missing part is at the end of the text
 abbrev IsEnded : Option (Fault × Row) → Type 0
 IsEnded None = Unit {0}
 IsEnded (Some w) = is_ended w.0 ≡ true
@@ -34,7 +34,7 @@ missing_ended : (q : Row) → IsEnded (missing q)
 missing_ended (p.Optional w · r) = missing_ended r
 missing_ended q = assumption
 
--- the names of the entries so far
+-- a list is that of the names of the entries so far
 abbrev Tracks : List (List ℕ) → AnnotatedForest → Type 0
 Tracks names b = (n : List ℕ) → is_among n names ≡ has_entry n b
 
@@ -60,7 +60,7 @@ repaired_entries : (m : Note) (names : List (List ℕ)) (f : Forest) → are_ent
 repaired_entries Stray names f h = h
 repaired_entries _ names f h = assumption
 
--- an entry that is not reported is new
+-- the name of an entry that is not reported is new
 not_repeated : (b c : AnnotatedForest) (y : IsEntry c) → Lacks is_repeated (repeated b c) → has_entry y.name.text b ≡ false
 not_repeated b c y h = by (has_entry y.name.text b) (subst (λ z. Lacks is_repeated (repeated_if z b)) y.said h)
   where
@@ -85,13 +85,13 @@ new_entries i q b (branch k c f) names h s =
 new_entries i q b (fault n c f) names h s =
     repaired_entries n names (repaired f) (new_entries i (after_error q n) (b ⊕ one_fault n c) f names (tracks_same names b (one_fault n c) (λ n. refl) h) s.1)
 
--- where error nodes stand
+-- an error node that is no operand is where such nodes may be
 skips : (note : Note) (d : ℕ) (q r : Row) (ts us : List Token) → IsWrong note d q r ts us → Skips note q
 skips Extra d q r ts us w = w.2
 skips DoubleBind d q r ts us w = absurd w
 skips _ d q r ts us w = tt
 
--- the accepted extensions of a forest after an error node
+-- the trees after the repair of an error node contain no accepted extension if all do
 extensions_behind : (m : Note) (k : SyntaxKind) (f : Forest) → has_no_extension k (repair m f) ≡ true → has_no_extension k f ≡ true
 extensions_behind Stray k f h = h
 extensions_behind _ k f h = assumption
@@ -151,7 +151,7 @@ sound {k = k₀} {n = n₀} {q = q} {b = b} {us = us} (inner {k = k} {c = c} {f 
           (misses_rest is_repeated (ds ++ repeats k b c) es m),
     )
 
--- no error of the end is counted
+-- a count of no errors at the end means that there are none
 none_counted : (es : List Fault) → ended_count es ≡ 0 → Lacks is_ended es
 none_counted [] h = tt
 none_counted (e ∷ es) h = by (is_ended e) refl h (none_counted es)
@@ -161,7 +161,7 @@ none_counted (e ∷ es) h = by (is_ended e) refl h (none_counted es)
     by true m n more = absurd (omega (arith, n))
     by false m n more = (m, more (omega (arith, n)))
 
--- the repaired tree of a text is an expression, if no error is of its end or of a repeated name, and no tree is an accepted extension
+-- the repaired tree of a text is an expression, if no error is at its end or about a repeated name, and no tree is an accepted extension
 one_expression : {g : Forest} → View NODE_ROOT (row NODE_ROOT) g → IsExpression g
 one_expression (stands a ends) = expression (a refl)
 

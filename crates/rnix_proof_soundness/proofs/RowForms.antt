@@ -1,4 +1,4 @@
--- What the children of a node, repaired, are in the grammar, by the parts of its row: each row gives its form.
+-- What the repaired children of a node are in the strict grammar, by the parts of its row: each row gives its form.
 use Rattle.std.proofs.Common.{◌≡◌, ◌⊎◌, inl, inr, ℕ, suc, Bool, true, false, List, [], ◌∷◌, refl, sym, ◌∙◌, subst, arith, if◌then◌else◌}
 use Rattle.{std.proofs.lemmas.Bool.Decides.nat_tests, rnix_kinds.specs.{declared.kinds.SyntaxKind.SyntaxKind, SyntaxKind.is_token}}
 use Rattle.{rnix_green.specs.Forest.{Forest, empty, leaf, node}, rnix_grammar.specs.{AnnotatedForest.AnnotatedForest, Tables.{is_among, is_or}}}
@@ -19,7 +19,7 @@ are_entries_new names (leaf k t f) = are_entries_new names f
 are_entries_new names (node K.NODE_PAT_ENTRY c f) = if is_among (entry_text c) names then false else are_entries_new (entry_text c ∷ names) f
 are_entries_new names (node k c f) = are_entries_new names f
 
--- the highest level of a node in the grammar: that of its row, but a lambda is as loose as can be
+-- the highest level of a node in the grammar: that of its row, except that a lambda is at the lowest
 abbrev pub tightest : SyntaxKind → AnnotatedForest → ℕ
 tightest K.NODE_LAMBDA c = expression_level
 tightest k c = level_of k c
@@ -29,11 +29,11 @@ abbrev pub is_closed : SyntaxKind → Bool
 is_closed K.NODE_LAMBDA = false
 is_closed k = is_atom k
 
--- a name is that of a value, and the current position is one
+-- if the node is a name, it is one that an expression may be
 abbrev pub is_value : SyntaxKind → AnnotatedForest → Bool
 is_value k c = is_named done k c
 
--- what a node with these children, repaired, is in the grammar
+-- what a node with these repaired children is in the grammar
 pub record IsMade (k : SyntaxKind) (c : AnnotatedForest) (g : Forest) : Type 0 where
   pub atom : is_closed k ≡ true → is_value k c ≡ true → G.Atom k g
   pub strict : is_expression k ≡ true → is_value k c ≡ true → G.Strict (tightest k c) k g
@@ -50,11 +50,11 @@ of_atom {k = k} {g = g} l a m = record { atom = λ h n. a; strict = λ h n. subs
 pub of_strict : {k : SyntaxKind} {c : AnnotatedForest} {g : Forest} → is_closed k ≡ false → G.Strict (tightest k c) k g → IsPart k g → IsMade k c g
 of_strict n a m = record { atom = λ h i. absurd (true_is_not_false (sym h ∙ n)); strict = λ e i. a; part = λ i h. m }
 
--- a name that is not `or`
+-- a name that passes the test against `or` is not `or`
 other_name : (t : List ℕ) → (if is_or t then false else true) ≡ true → is_or t ≡ false
 other_name t h = not_if (is_or t) h
 
--- an interpolation as an attribute holds one tree
+-- an interpolation as an attribute contains one tree
 one_tree : (w : Bool) → (if (if w then false else true) then false else true) ≡ true → w ≡ true
 one_tree true h = refl
 one_tree false h = h
@@ -117,7 +117,7 @@ let_of : {s t : List ℕ} {f g : Forest} → G.Entries f (leaf K.TOKEN_IN t g) �
     → G.Strict expression_level K.NODE_LET_IN (leaf K.TOKEN_LET s f)
 let_of e (stands d ends) = G.let_in e (d refl)
 
--- patterns
+-- the children of a pattern
 new_name : (x : List ℕ) (known : List (List ℕ)) (f : Forest) → (if is_among x known then false else are_entries_new (x ∷ known) f) ≡ true
     → (is_among x known ≡ false) × (are_entries_new (x ∷ known) f ≡ true)
 new_name x known f h = by (is_among x known) h
@@ -150,7 +150,7 @@ bound_first : {c f : Forest} {t : List ℕ} → IsBind c → (if begins_with_lea
 bound_first (binds_before o) e h = G.bound_pattern o h
 bound_first (binds_behind o) e h = absurd (true_is_not_false (sym e))
 
--- the nodes whose levels or names depend on the tokens that they have
+-- the nodes whose level or name depends on their tokens
 abbrev pub depends_on_tokens : SyntaxKind → Bool
 depends_on_tokens K.NODE_IDENT = true
 depends_on_tokens K.NODE_CUR_POS = true
@@ -161,7 +161,7 @@ depends_on_tokens K.NODE_UNARY_OP = true
 depends_on_tokens K.NODE_BIN_OP = true
 depends_on_tokens k = false
 
--- what the children of another node are
+-- the children of each other node are what the grammar requires
 pub made : (k : SyntaxKind) (c : AnnotatedForest) (g : Forest) → depends_on_tokens k ≡ false → View k (row k) g
     → (k ≡ K.NODE_PATTERN → are_entries_new [] g ≡ true)
     → IsMade k c g

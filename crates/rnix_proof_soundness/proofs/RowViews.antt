@@ -1,4 +1,4 @@
--- The children of a node, repaired, part by part along the row of its kind.
+-- The repaired children of a node, part by part along the row of its kind.
 use Rattle.std.proofs.Common.{◌≡◌, ◌⊎◌, inl, inr, ⊎_elim, ℕ, Bool, true, false, List, [], refl, sym, ◌∙◌, subst, ◌||◌, ◌&&◌, if◌then◌else◌, nat_eq, nat_le}
 use Rattle.{rnix_kinds.specs.{declared.kinds.SyntaxKind.SyntaxKind, SyntaxKind.is_token}, rnix_green.specs.Equality.{same_kind, same_kind-decides}}
 use Rattle.{rnix_green.specs.Forest.{Forest, empty, leaf, node}, rnix_grammar.specs.{Levels.selection_level, Rules.{Row, never, done, ◌·◌, ◌or◌, only}}}
@@ -29,7 +29,7 @@ pub data IsBind : Forest → Type 0 where
   binds_before : {s t : List ℕ} → is_or t ≡ false → IsBind (name t (leaf K.TOKEN_AT s empty))
   binds_behind : {s t : List ℕ} → is_or t ≡ false → IsBind (leaf K.TOKEN_AT s (name t empty))
 
--- what a node with these children is in the grammar, if it is an attribute or another part of an expression
+-- what a node with these children is in the grammar, if it is an attribute or another part that is no expression
 abbrev pub IsPart : SyntaxKind → Forest → Type 0
 IsPart K.NODE_IDENT c = Attr K.NODE_IDENT c
 IsPart K.NODE_STRING c = Attr K.NODE_STRING c
@@ -51,11 +51,11 @@ attr_of K.NODE_STRING h m = m
 attr_of K.NODE_DYNAMIC h m = m
 attr_of _ h m = absurd (true_is_not_false (sym h))
 
--- an operand of a level below a node of the first kind: the level is that of all expressions, or lambdas are not allowed there
+-- below a node of the first kind an operand is an expression at its level, if this is the lowest or the node may contain no lambda
 abbrev pub IsIn : SyntaxKind → ℕ → SyntaxKind → Forest → Type 0
 IsIn parent n k c = (nat_le n selection_level && (nat_eq n 0 || holds_no_lambda parent)) ≡ true → Strict n k c
 
--- an operand is an expression at its level
+-- an operand that has the kind of an expression is such an operand
 abbrev pub Offers : SyntaxKind → ℕ → SyntaxKind → Forest → Type 0
 Offers parent n k c = is_expression k ≡ true → IsIn parent n k c
 
@@ -73,7 +73,7 @@ names_or (p.Optional w · r) = names_or r
 names_or (r or s) = names_or r
 names_or r = false
 
--- the name of a pattern follows `@` where the row may end, and precedes it elsewhere; other names are `or` only where that is allowed
+-- the bound name of a pattern follows `@` where the row may end, and precedes it elsewhere; other names are `or` only where that is allowed
 abbrev pub bound : Bool → Bool → SyntaxKind → Forest → Bool
 bound ends any K.NODE_PAT_BIND c = if ends then begins_with_leaf c else (if begins_with_leaf c then false else true)
 bound ends any K.NODE_IDENT c = if any then true else (if is_or (only_text c) then false else true)
@@ -91,7 +91,7 @@ is_piece k = false
 abbrev pub continues_path : SyntaxKind → Bool
 continues_path k = is_path_piece k || same_kind K.NODE_INTERPOL k
 
--- the parts of such a row: nothing; a child of a kind; an operand; several children; formals
+-- the forms of the rest of a row: nothing; a child of a kind; an operand; several children; formals
 pub data Ends : Forest → Type 0 where
   ends : Ends empty
 
@@ -128,7 +128,7 @@ Asks parent r = λ k c. Unit {0}
 abbrev pub Fits : SyntaxKind → Row → SyntaxKind → Forest → Type 0
 Fits parent q k c = Asks parent q k c × (binds q k c ≡ true)
 
--- The children of a node, where this is left of its row, part by part, each as the grammar has it. An optional child may be missing.
+-- The children of a node for this rest of its row, part by part, each as the grammar requires. An optional child may be missing.
 pub data GrammarRow (parent : SyntaxKind) : Row → Forest → Type 0 where
   ended : {q : Row} → may_end q ≡ true → GrammarRow parent q empty
   leaf_node_made : {q : Row} {k : SyntaxKind} {t : List ℕ} {f : Forest} → is_token k ≡ true → GrammarRow parent (after q k) f → GrammarRow parent q (leaf k t f)
@@ -141,7 +141,7 @@ abbrev pub is_optional : Row → Bool
 is_optional (p.Optional w · r) = true
 is_optional r = false
 
--- the view after the first operand of an operator, a call or a selection
+-- the children of a node, after the first operand of an operator, a call or a selection
 abbrev pub View : SyntaxKind → Row → Forest → Type 0
 View parent never = λ f. ⊥
 View parent ((p.Child w · r) or (p.Child v · s)) = λ f. One (is_token w) w ((p.Child w · r) or (p.Child v · s)) (View parent r) f
@@ -171,18 +171,18 @@ same_rest : (w v : SyntaxKind) (r s : Row) → p.Optional w · r ≡ p.Optional 
 same_rest w v r s h = cc
 
 module _ (parent : SyntaxKind) where
-  -- nothing follows where no row fits
+  -- no children fit `never`
   pub lost : {A : Type 0} {f : Forest} → GrammarRow parent never f → A
   lost (ended e) = absurd (true_is_not_false (sym e))
   lost (leaf_node_made i h) = lost h
   lost (node_started i m a h) = lost h
 
-  -- a row that continues only if a test holds
+  -- if the row continues only if a test is true, the test is true
   kept : (w : Bool) (r : Row) {f : Forest} → GrammarRow parent (only w r) f → (w ≡ true) × GrammarRow parent r f
   kept true r h = (refl, h)
   kept false r h = lost h
 
-  -- after a leaf, and after a node
+  -- the children after a leaf, and those after a node
   past_leaf : {q : Row} {k : SyntaxKind} {t : List ℕ} {f : Forest} → is_optional q ≡ false → GrammarRow parent q (leaf k t f) → GrammarRow parent (after q k) f
   past_leaf o (leaf_node_made i h) = h
   past_leaf o (passed h) = absurd (true_is_not_false o)
@@ -198,7 +198,7 @@ module _ (parent : SyntaxKind) where
   over_here q o d (node_started {k = k} {f = f} i m a h) = lost (subst (λ r. GrammarRow parent r f) (d k) h)
   over_here _ o d (passed h) = absurd (true_is_not_false o)
 
-  -- a row continues like another one that continues with the same children
+  -- a row has the children of another one that continues with the same children
   pub alike : (q s : Row) → is_optional s ≡ false → (may_end s ≡ true → may_end q ≡ true)
       → ((k : SyntaxKind) (c : Forest) → Fits parent s k c → Fits parent q k c)
       → ((H : Row → Type 0) (k : SyntaxKind) → ((r : Row) → H never → H r) → H (after s k) → H (after q k)) → {f : Forest} → GrammarRow parent s f
@@ -208,7 +208,7 @@ module _ (parent : SyntaxKind) where
   alike q s o e a step (node_started {k = k} {c = c} {f = f} i m x h) = node_started i m (a k c x) (step (λ r. GrammarRow parent r f) k (λ r w. lost w) h)
   alike q _ o e a step (passed h) = absurd (true_is_not_false o)
 
-  -- the next child, which is of a kind
+  -- the next child has the kind, and the others are viewed after it
   here_leaf : (w : SyntaxKind) (q r : Row) {V : Forest → Type 0} → ((f : Forest) → GrammarRow parent r f → V f) → (k : SyntaxKind) (t : List ℕ) (f : Forest)
       → is_token k ≡ true → (w ≡ k) × GrammarRow parent r f → One (is_token w) w q V (leaf k t f)
   here_leaf w q r {V} v k t f i x =
@@ -222,7 +222,7 @@ module _ (parent : SyntaxKind) where
   this_kind : (w k : SyntaxKind) (r : Row) {f : Forest} → GrammarRow parent (only (same_kind w k) r) f → (w ≡ k) × GrammarRow parent r f
   this_kind w k r h = let x = kept (same_kind w k) r h in ((same_kind-decides w k).0 x.0, x.1)
 
-  -- that child comes next
+  -- a row that requires a child of the kind begins with it
   child : (w : SyntaxKind) (q r : Row) → is_optional q ≡ false → may_end q ≡ false → ((k : SyntaxKind) → after q k ≡ only (same_kind w k) r)
       → {V : Forest → Type 0} → ((f : Forest) → GrammarRow parent r f → V f) → (f : Forest) → GrammarRow parent q f → One (is_token w) w q V f
   child w q r o e d v _ (ended h) = absurd (true_is_not_false (sym h ∙ e))
@@ -231,7 +231,7 @@ module _ (parent : SyntaxKind) where
       here_node w q r v k c f i m x.1 (this_kind w k r (subst (λ z. GrammarRow parent z f) (d k) h))
   child w _ r o e d v f (passed h) = absurd (true_is_not_false o)
 
-  -- or the row continues like another one
+  -- a row begins with a child of the kind, or is viewed as another one
   one : (w : SyntaxKind) (q r s : Row) → (is_optional q ≡ true → q ≡ p.Optional w · s) → (may_end q ≡ true → may_end s ≡ true)
       → ((k : SyntaxKind) (c f : Forest) → GrammarRow parent (after s k) f → Fits parent q k c → Fits parent s k c)
       → ((k : SyntaxKind) (f : Forest) → GrammarRow parent (after q k) f → ((w ≡ k) × GrammarRow parent r f) ⊎ GrammarRow parent (after s k) f)
@@ -245,7 +245,7 @@ module _ (parent : SyntaxKind) where
       ⊎_elim (λ y. inl (here_node w q r v k c f i m x.1 y)) (λ y. inr (u (node k c f) (node_started i m (a k c f y x) y))) (step k f h)
   one w _ r s o e a step v u f (passed {w = x} {r = y} h) = inr (u f (subst (λ z. GrammarRow parent z f) (same_rest x w y s (o refl)) h))
 
-  -- three forms of rows, by whether the next child is of the kind
+  -- the next child has the kind, or not
   either : (w k : SyntaxKind) (r z : Row) {f : Forest} → GrammarRow parent (or_else (only (same_kind w k) r) z) f
       → ((w ≡ k) × GrammarRow parent r f) ⊎ GrammarRow parent z f
   either w k r z {f} h = by (same_kind w k) r refl h
@@ -263,7 +263,7 @@ module _ (parent : SyntaxKind) where
       by true e h = inl ((same_kind-decides w k).0 e, h)
       by false e h = inr h
 
-  -- children that pass a test, and what follows them
+  -- children that pass a test, and then one of a kind
   several : (b : SyntaxKind → Bool) (w : SyntaxKind) (q r : Row) → is_optional q ≡ false → may_end q ≡ false
       → ((k : SyntaxKind) (f : Forest) → GrammarRow parent (after q k) f → ((w ≡ k) × GrammarRow parent r f) ⊎ ((b k ≡ true) × GrammarRow parent q f))
       → {V : Forest → Type 0}
@@ -275,7 +275,7 @@ module _ (parent : SyntaxKind) where
       ⊎_elim (λ y. over (here_node w q r v k c f i m x.1 y)) (λ y. and_node i y.0 x.0 m (several b w q r o e step v f y.1)) (step k f h)
   several b w _ r o e step v f (passed h) = absurd (true_is_not_false o)
 
-  -- a child that closes such children, or passes the test
+  -- the next child is the closing one, or passes the test
   closing : (w k : SyntaxKind) (b : Bool) (q r : Row) {f : Forest} → GrammarRow parent (if same_kind w k then r else only b q) f
       → ((w ≡ k) × GrammarRow parent r f) ⊎ ((b ≡ true) × GrammarRow parent q f)
   closing w k b q r h = ⊎_elim inl (λ x. inr (kept b q x)) (chosen w k r (only b q) h)
@@ -297,7 +297,7 @@ module _ (parent : SyntaxKind) where
   pieces r (leaf k t f) (leaf_node_made i h) = let x = kept (continues_path k) (p.PathPieces · r) h in and_leaf i x.0 (pieces r f x.1)
   pieces r (node k c f) (node_started i m a h) = let x = kept (continues_path k) (p.PathPieces · r) h in and_node i x.0 tt m (pieces r f x.1)
 
-  -- an operand comes next
+  -- a row that requires an operand begins with it
   operand : (n : ℕ) (counted : Bool) (r : Row) {V : Forest → Type 0} → ((f : Forest) → GrammarRow parent r f → V f) → (f : Forest)
       → GrammarRow parent (p.Operand n counted · r) f → FirstNode (IsIn parent n) V f
   operand n counted r v _ (ended h) = absurd (true_is_not_false (sym h))
@@ -340,7 +340,7 @@ module _ (parent : SyntaxKind) where
   braces r v u (node K.TOKEN_ELLIPSIS c f) (node_started i m a h) = absurd (true_is_not_false (sym i))
   braces r v u (node _ c f) (node_started i m a h) = lost h
 
--- every sound row has such a view
+-- the children of each row have their view
 pub view : (parent : SyntaxKind) (r : Row) (f : Forest) → GrammarRow parent r f → View parent r f
 view i never f h = lost i h
 view i ((p.Child w · r) or (p.Child v · s)) f h = one i w ((p.Child w · r) or (p.Child v · s)) r (p.Child v · s) (λ e. cc) (λ e. cc) (λ k c f h x. x)

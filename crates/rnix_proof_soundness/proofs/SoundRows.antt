@@ -1,4 +1,4 @@
--- What is known of a forest that is read: its tokens are spelled, its names stand where they may, and its nodes are what they are in the grammar.
+-- What is known of a forest that is read: its tokens are spelled, its names are where they may be, and its nodes have their forms in the grammar.
 use Rattle.std.proofs.Common.{◌≡◌, ⊎_elim, ℕ, ◌≤◌, Bool, true, false, List, Option, Some, None, refl, ap, sym, ◌∙◌, subst, codes, arith, if◌then◌else◌, ◌||◌}
 use Rattle.{std.proofs.{Common.{nat_eq, nat_le}, lemmas.Bool.{and_parts, or_cases, Decides.nat_tests}}, rnix_kinds.specs.declared.kinds.SyntaxKind.SyntaxKind}
 use Rattle.rnix_kinds.specs.declared.kinds.SyntaxKind.TheVariants.{TOKEN_CUR_POS, TOKEN_IDENT, TOKEN_INTEGER, TOKEN_OR, TOKEN_R_BRACE, NODE_CUR_POS, NODE_IDENT}
@@ -16,7 +16,7 @@ use Rattle.rnix_proof_soundness.proofs.{RowViews.{GrammarRow, ended, leaf_node_m
 use Rattle.rnix_grammar.specs.Tables as tables
 use Rattle.rnix_grammar.specs.declared.rules.Part.TheVariants as p
 
--- a token stays one as a leaf
+-- a spelled token is a token as a leaf
 spelled_token : (kind : SyntaxKind) (text : List ℕ) → is_spelled kind text ≡ true → is_token kind ≡ true
 spelled_token TOKEN_OR text h = refl
 spelled_token TOKEN_IDENT text h = refl
@@ -36,7 +36,7 @@ pub record IsEntry (c : AnnotatedForest) : Type 0 where
   pub said : entry_name c ≡ Some name
   pub same : entry_text (repaired c) ≡ name.text
 
--- what is known of the tokens of some nodes
+-- what is known of the tokens of a node, by its kind
 abbrev pub Tokens : SyntaxKind → AnnotatedForest → Type 0
 Tokens NODE_IDENT c = IsName c
 Tokens NODE_PAT_ENTRY c = IsEntry c
@@ -48,7 +48,7 @@ abbrev pub Calls : Row → AnnotatedForest → AnnotatedForest → Type 0
 Calls (p.Argument · r) b x = is_or_row x ≡ true → is_atom_row b ≡ true
 Calls q b x = Unit {0}
 
--- what is known of a leaf and of a node where this is left of a row, after other trees
+-- what is known of a leaf, and of a node, at this rest of a row, after other trees
 pub record IsLeaf (parent : SyntaxKind) (q : Row) (b : AnnotatedForest) (k : SyntaxKind) (t : Token) : Type 0 where
   pub kind_is : k ≡ leaf_kind parent t
   pub spelled : is_spelled t.kind t.text ≡ true
@@ -65,13 +65,13 @@ pub record IsChild (parent : SyntaxKind) (q : Row) (b : AnnotatedForest) (k : Sy
   pub extension : (if is_extension parent k (repaired c) then false else true) ≡ true
   pub new : Lacks is_repeated (repeats k b c)
 
--- where error nodes that are no operands stand
+-- where error nodes that are no operands may be
 abbrev pub Skips : Note → Row → Type 0
 Skips Extra q = q ≡ p.TextEnd · done
 Skips DoubleBind q = q ≡ p.BoundAlready · done
 Skips note q = Unit {0}
 
--- and of each tree of a forest, where this is left of the row
+-- what is known of each tree of a forest, at this rest of the row
 abbrev pub IsSound : SyntaxKind → Row → AnnotatedForest → AnnotatedForest → Type 0
 IsSound parent q b blank = may_end q ≡ true
 IsSound parent q b (token k t f) = IsLeaf parent q b k t × IsSound parent (after q k) (b ⊕ one_token k t) f
@@ -86,7 +86,7 @@ is_part r = false
 pub no_part : {A : Type 0} (q : Row) {x : Part} {r : Row} → is_part q ≡ false → q ≡ x · r → A
 no_part q n e = absurd (true_is_not_false (sym (ap is_part e) ∙ n))
 
--- no row continues where there is none
+-- no forest fits `never`
 pub nowhere : {A : Type 0} (parent : SyntaxKind) (b f : AnnotatedForest) → IsSound parent never b f → A
 nowhere parent b blank h = absurd (true_is_not_false (sym h))
 nowhere parent b (token k t f) h = nowhere parent (b ⊕ one_token k t) f h.1
@@ -94,11 +94,11 @@ nowhere parent b (branch k c f) h = nowhere parent (b ⊕ one_branch k c) f h.1
 nowhere parent b (fault DoubleBind c f) h = no_part never refl h.0
 nowhere parent b (fault n c f) h = nowhere parent (b ⊕ one_fault n c) f h.1
 
--- a leaf is a token
+-- a leaf of a forest that is read is a token
 pub leaf_is_token : {parent : SyntaxKind} {q : Row} {b : AnnotatedForest} {k : SyntaxKind} {t : Token} → IsLeaf parent q b k t → is_token k ≡ true
 leaf_is_token {parent = parent} {t = t} h = ap is_token h.kind_is ∙ leaf_token parent t.kind t.text h.spelled
 
--- a number in an operand's place
+-- the number that replaces an operand
 abbrev pub zero : Forest
 zero = leaf TOKEN_INTEGER (codes "0") empty
 
@@ -111,12 +111,12 @@ number_asked parent (p.Operand n counted · r) = number_in parent n
 number_asked parent (p.Many n w · r) = number_in parent n
 number_asked parent _ = tt
 
--- a node that suits its place is named as it may be there
+-- a name that is allowed at a position is named as required there
 allowed_named : (q : Row) (k : SyntaxKind) (c : AnnotatedForest) → is_name_allowed q k c ≡ true → is_named_in q k (only_token c) ≡ true
 allowed_named q NODE_PAT_BIND c h = elim (only_token c) as (λ o. is_named_in q NODE_PAT_BIND o ≡ true) [ None ↦ refl | Some t ↦ refl ]
 allowed_named q k c h = h
 
--- a name that is plain where it stands may be an expression
+-- a name that must be plain at its position may be an expression
 pub named_value : (q : Row) (k : SyntaxKind) (c : AnnotatedForest) → (k ≡ NODE_IDENT → (t : Token) → is_name_at q t ≡ true → is_plain t ≡ true)
     → is_name_allowed q k c ≡ true → is_value k c ≡ true
 named_value q k c plain h = by k (only_token c) plain (allowed_named q k c h)
@@ -128,7 +128,7 @@ named_value q k c plain h = by k (only_token c) plain (allowed_named q k c h)
     by NODE_CUR_POS (Some t) plain h = h
     by k (Some t) plain h = refl
 
--- a tree that is no accepted extension is at each level at which it binds
+-- if a tree is no accepted extension, a level that is not above its own is not above its highest level in the grammar
 bounded : (parent k : SyntaxKind) (c : AnnotatedForest) (g : Forest) (n : ℕ) → n ≤ level_of k c → (if is_extension parent k g then false else true) ≡ true
     → (nat_eq n 0 || holds_no_lambda parent) ≡ true → n ≤ tightest k c
 bounded parent NODE_LAMBDA c g n l m o = ⊎_elim (λ e. grind (arith, nat_tests, e))
@@ -139,7 +139,7 @@ pub level_operand : {parent k : SyntaxKind} {q : Row} {b c : AnnotatedForest} (n
     → is_value k c ≡ true → n ≤ level_of k c → (nat_eq n 0 || holds_no_lambda parent) ≡ true → Strict n k (repaired c)
 level_operand {parent = parent} {k = k} {c = c} n h e named l o = looser (bounded parent k c (repaired c) n l h.extension o) (h.made.strict e named)
 
--- so does an operand
+-- a child that is at least as tight as a level is an operand of that level
 offered : {parent k : SyntaxKind} {q : Row} {b c : AnnotatedForest} (n : ℕ) → IsChild parent q b k c → is_value k c ≡ true → n ≤ level_of k c
     → Offers parent n k (repaired c)
 offered {parent = parent} n h v l i o = level_operand n h i v l (and_parts (nat_le n selection_level) (nat_eq n 0 || holds_no_lambda parent) o).1
@@ -149,7 +149,7 @@ asked parent (p.Operand n counted · r) b k c h = offered n h (named_value (p.Op
 asked parent (p.Many n w · r) b k c h = offered n h (named_value (p.Many n w · r) k c (λ i t e. e) h.suited) h.operand.0
 asked parent _ b k c h = tt
 
--- the name that a pattern is bound to stands where it may
+-- the bound name of a pattern is where it may be
 bound_at : (q : Row) (c : AnnotatedForest) → begins_with_leaf (repaired c) ≡ begins_with_token c → is_name_allowed q NODE_PAT_BIND c ≡ true
     → binds q NODE_PAT_BIND (repaired c) ≡ true
 bound_at (p.EndOr w · r) c e h = e ∙ h
@@ -214,7 +214,7 @@ grammar_row_run i q f (Some w) g h = g h
 grammar_row_number : (parent : SyntaxKind) (q : Row) {f : Forest} → GrammarRow parent (after q NODE_LITERAL) f → GrammarRow parent q (node NODE_LITERAL zero f)
 grammar_row_number parent q h = node_started refl tt (number_asked parent q, refl) h
 
--- so a sound forest has children that are what they are in the grammar
+-- so the repaired children of a forest that is read have their forms in the grammar
 pub sound_row : (parent : SyntaxKind) (q : Row) (b f : AnnotatedForest) → IsSound parent q b f → GrammarRow parent q (repaired f)
 sound_row i q b blank h = ended h
 sound_row i q b (token k t f) h = leaf_node_made (leaf_is_token h.0) (sound_row i (after q k) (b ⊕ one_token k t) f h.1)

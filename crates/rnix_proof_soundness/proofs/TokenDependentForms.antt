@@ -1,4 +1,4 @@
--- What names, selections, calls and operators are in the grammar: their names and levels depend on their tokens.
+-- What names, selections, calls and operations are in the grammar. Their names and levels depend on their tokens.
 use Rattle.std.{specs.List.list_all, proofs.Common.{◌≡◌, ℕ, ◌≤◌, inl, inr, Bool, true, false, List, [], Some, None, refl, ap, sym, ◌∙◌, subst, arith}}
 use Rattle.{std.proofs.{Common.{if◌then◌else◌, ◌||◌, ◌&&◌, nat_eq, nat_le}, lemmas.Bool.or_right}, rnix_kinds.specs.declared.kinds.SyntaxKind.SyntaxKind}
 use Rattle.rnix_kinds.specs.declared.kinds.SyntaxKind.TheVariants.{TOKEN_CUR_POS, TOKEN_DOT, TOKEN_IDENT, TOKEN_INVERT, TOKEN_OR, TOKEN_QUESTION, TOKEN_SUB}
@@ -22,12 +22,12 @@ use Rattle.rnix_grammar.specs.Grammar as G
 use Rattle.rnix_grammar.specs.Tables as tables
 use Rattle.rnix_grammar.specs.declared.rules.Part.TheVariants as p
 
--- a row that continues only if a test holds
+-- if a row continues only if a test is true, the test is true
 goes : (parent : SyntaxKind) (w : Bool) (r : Row) (b f : AnnotatedForest) → IsSound parent (only w r) b f → (w ≡ true) × IsSound parent r b f
 goes i true r b f h = (refl, h)
 goes i false r b f h = nowhere i b f h
 
--- where no run of tokens may be, an error node is a number
+-- where no run may be read, an error node is replaced by a number
 as_number : (parent : SyntaxKind) (q : Row) (n : Note) (b f : AnnotatedForest) → run_at q ≡ None → may_end q ≡ false
     → Skips n q × IsSound parent (after_error q n) b f
     → ((g : Forest) → repair n g ≡ node NODE_LITERAL zero g) × IsSound parent (after q NODE_LITERAL) b f
@@ -37,7 +37,7 @@ as_number i q (Unwanted u) b f e m h = nowhere i b f (subst (λ w. IsSound i (af
 as_number i q Extra b f e m h = absurd (true_is_not_false (sym (ap may_end h.0) ∙ m))
 as_number i q DoubleBind b f e m h = absurd (true_is_not_false (sym (ap may_end h.0) ∙ m))
 
--- the first tree of a forest, or the number in its place
+-- the first tree of a forest, or the number that replaces it
 record IsFirst (x : AnnotatedForest) (k : SyntaxKind) (g : Forest) : Type 0 where
   stands : (n : ℕ) → n ≤ row_level x → G.Strict n k g
   atom : is_atom_row x ≡ true → G.Atom k g
@@ -75,7 +75,7 @@ number_first n c = record {
   calls = λ f. refl;
 }
 
--- what follows of each row that begins with such a tree
+-- a property that holds of what follows each first tree holds of the row
 by_first : (parent : SyntaxKind) (a : SyntaxKind → Bool) (q r : Row) (P : AnnotatedForest → Forest → Type 0) → ((k : SyntaxKind) → after q k ≡ only (a k) r)
     → run_at q ≡ None → may_end q ≡ false → ((k : SyntaxKind) → a k ≡ true → is_expression k ≡ true) → holds_no_lambda parent ≡ true
     → ((t : Token) → is_name_at q t ≡ true → is_plain t ≡ true)
@@ -93,12 +93,12 @@ by_first i a q r P e o m x h plain n (fault u c f) s =
     let w = goes i (a NODE_LITERAL) r (one_fault u c) f (subst (λ z. IsSound i z (one_fault u c) f) (e NODE_LITERAL) v.1) in
     subst (P (fault u c f)) (sym (v.0 (repaired f))) (n (one_fault u c) f NODE_LITERAL zero w.0 (number_first u c) w.1)
 
--- there is a row
+-- a row with a forest that is read is viable
 viable : (parent : SyntaxKind) (q : Row) (b f : AnnotatedForest) → IsSound parent q b f → is_viable q ≡ true
 viable i never b f s = nowhere i b f s
 viable i _ b f s = refl
 
--- a row continues with a token where no node may be
+-- at a row where no node may be read, the forest begins with a token
 abbrev Next : SyntaxKind → Row → AnnotatedForest → (AnnotatedForest → Type 0) → Type 0
 Next parent q b P = (k : SyntaxKind) (t : Token) (f : AnnotatedForest) → IsLeaf parent q b k t → IsSound parent (after q k) (b ⊕ one_token k t) f
     → P (token k t f)
@@ -115,7 +115,7 @@ token_next i q b o m all P n (fault u c f) s =
     absurd (true_is_not_false (sym (implied (λ k. is_viable (after q k)) is_token all NODE_LITERAL
     (viable i (after q NODE_LITERAL) (b ⊕ one_fault u c) f (as_number i q u (b ⊕ one_fault u c) f o m s).1))))
 
--- nothing comes after the end of a row
+-- the rest of a complete row is empty
 past_blank : (parent : SyntaxKind) (b f : AnnotatedForest) → IsSound parent done b f → f ≡ blank
 past_blank i b blank s = refl
 past_blank i b (token k t f) s = nowhere i (b ⊕ one_token k t) f s.1
@@ -147,7 +147,7 @@ name_made (name {t = t} e) = record { atom = λ h n. value n; strict = λ h n. G
     value : is_plain t ≡ true → G.Atom NODE_IDENT (leaf TOKEN_IDENT t.text empty)
     value n = let w = plain_parts (is_or t.kind) (is_cur_pos t.text) n in G.named (e ∙ w.0) w.1
 
--- the current position
+-- `__curPos` is spelled so
 position_spelled : (kind : SyntaxKind) (text : List ℕ) → is_spelled kind text ≡ true → is_position kind text ≡ true → is_cur_pos text ≡ true
 position_spelled TOKEN_CUR_POS text h n = absurd (true_is_not_false (sym h))
 position_spelled _ text h n = n
@@ -166,7 +166,7 @@ position_made = token_next NODE_CUR_POS (row NODE_CUR_POS) blank refl refl refl 
         (sym (past_blank NODE_CUR_POS (one_token TOKEN_CUR_POS t) f s)) (made_of t l.spelled)
     next k t f l s = nowhere NODE_CUR_POS (one_token k t) f s
 
--- what is left of a row is seen part by part
+-- a forest that is read has a view for the rest of its row
 seen : (parent : SyntaxKind) (q : Row) (b f : AnnotatedForest) → IsSound parent q b f → View parent q (repaired f)
 seen i q b f s = view i q (repaired f) (sound_row i q b f s)
 
@@ -185,7 +185,7 @@ prefix_strict = token_next NODE_UNARY_OP (row NODE_UNARY_OP) blank refl refl ref
         by (stands a ends) = G.invert (a refl)
     next k t f l s = nowhere NODE_UNARY_OP (one_token k t) f s
 
--- a tree and a token after it: selections, tests of attributes, binary operators
+-- a tree and a token after it: selections, tests for attributes, binary operations
 with_token : (parent : SyntaxKind) (a : SyntaxKind → Bool) (q z : Row) (P : AnnotatedForest → Forest → Type 0) → ((k : SyntaxKind) → after q k ≡ only (a k) z)
     → run_at q ≡ None → may_end q ≡ false → ((k : SyntaxKind) → a k ≡ true → is_expression k ≡ true) → holds_no_lambda parent ≡ true
     → ((t : Token) → is_name_at q t ≡ true → is_plain t ≡ true) → run_at z ≡ None → may_end z ≡ false
@@ -300,7 +300,7 @@ call_strict = by_first NODE_APPLY is_simple (row NODE_APPLY) (p.Argument · done
     (λ x f k g i a s. subst (λ w. G.Strict (if w then selection_level else application_level) NODE_APPLY (node k g (repaired f))) (sym (a.calls f))
     (argued x k g a (a.simple i) f s))
 
--- what the children of each node are
+-- the children of each node whose form depends on tokens have their form
 made_led : (k : SyntaxKind) (c : AnnotatedForest) → depends_on_tokens k ≡ true → IsSound k (row k) blank c → IsMade k c (repaired c)
 made_led NODE_IDENT c e s = name_made (name_tokens c s)
 made_led NODE_CUR_POS c e s = position_made c s
@@ -319,7 +319,7 @@ sound_made k c s n = by (depends_on_tokens k) refl
     by true e = made_led k c e s
     by false e = made k c (repaired c) e (seen k (row k) blank c s) n
 
--- what is known of the tokens of each node
+-- what is known of the tokens of an entry
 entry_tokens : (c : AnnotatedForest) → IsSound NODE_PAT_ENTRY (row NODE_PAT_ENTRY) blank c → IsEntry c
 entry_tokens blank s = absurd (true_is_not_false (sym s))
 entry_tokens (token k t f) s = absurd (no_kind_both is_token (λ k. is_viable (after (row NODE_PAT_ENTRY) k)) refl k (leaf_is_token s.0)

@@ -1,4 +1,4 @@
--- The actions at each position keep to the bounds, where an item is at hand. Shown by computation over the table of rows.
+-- Before an item, the actions at each position respect the bounds. Shown by computation over the table of rows.
 use Rattle.std.proofs.Common.{◌≡◌, ℕ, ◌+◌, ◌*◌, Bool, true, false, ◌&&◌, List, [], ◌∷◌, Option, Some, None, if◌then◌else◌, nat_eq, drop, refl, ap, sym, subst}
 use Rattle.std.proofs.lemmas.Bool.{and_parts}
 use Rattle.rnix_kinds.{specs.declared.kinds.SyntaxKind.SyntaxKind, proofs.AllKinds.every}
@@ -15,7 +15,7 @@ use Rattle.rnix_grammar.specs.declared.rules.Part.TheVariants as r
 use Rattle.rnix_grammar.specs.declared.expected_set.ExpectedSet.TheVariants as u
 use Rattle.rnix_grammar.specs.declared.action.Action.TheVariants as a
 
--- what an action needs at a position where an item is at hand; what needs the end of the text is not kept to
+-- the bounds for an action before an item, as pairs of which the first must be at most the second; no bound is met by actions for the end of the text
 abbrev pub bounds : Bool → Position → Action → List (ℕ × ℕ)
 bounds levels x a.Close = closes levels x
 bounds levels x a.CloseEntry = closes levels x
@@ -39,7 +39,7 @@ bounds levels x action = (1, 0) ∷ []
 abbrev keeps : Position → Action → Bool
 keeps x action = are_at_most (bounds false x action) && are_at_most (bounds true x action)
 
--- what holds of each action where an attribute may be
+-- a property holds of each action where an attribute may be read
 abbrev AttrActions : (Action → Type 0) → ℕ → ℕ → Type 0
 AttrActions P again after = P (a.Open NODE_DYNAMIC DYNAMIC after) × P (a.Open NODE_STRING STRING after) × P (a.Leaf NODE_IDENT after) × P (a.Run u.Attr again)
 
@@ -51,7 +51,7 @@ FormalsActions P bound after =
     P (a.Take after) × P (a.Take (if bound then BOUND_PATTERN_CLOSE else PATTERN_CLOSE))
     × P (a.Entry (if bound then BOUND_AFTER_FORMAL else AFTER_FORMAL)) × P (a.Run u.Entry (if bound then BOUND_AFTER_COMMA else AFTER_COMMA))
 
--- what holds of each action at a slot, where an item is at hand
+-- a property holds of each action at a slot before an item
 abbrev EachAction : (Action → Type 0) → Option Slot → ℕ → Type 0
 EachAction P None i = P a.Close
 EachAction P (Some (End kind)) i = P (close_action kind)
@@ -82,7 +82,7 @@ EachAction P (Some (Next r.BoundAlready)) i = P (a.DoubleBind (i + 1)) × P a.Cl
 EachAction P (Some (Next r.TextEnd)) i = P a.Extra
 EachAction P (Some (Next part)) i = P (a.Take (i + 1))
 
--- these are the actions
+-- then it holds of the action that the table has
 attr_acted : (P : Action → Type 0) (again after : ℕ) (kind : SyntaxKind) → AttrActions P again after → P (attr_action again after (Some kind))
 attr_acted P again after kind h = each_kind (λ k. P (attr_action again after (Some k))) (assumption (h.0, h.1, h.2, h.3)) kind
 
@@ -128,7 +128,7 @@ acted P (Some (Next r.BoundAlready)) i kind touches h = each_kind (λ k. P (boun
 acted P (Some (Next r.TextEnd)) i kind touches h = h
 acted P (Some (Next _)) i kind touches h = h
 
--- each slot's actions keep to the bounds
+-- the actions at each slot respect the bounds
 abbrev KeepsAt : ℕ → Type 0
 KeepsAt i = EachAction (λ action. keeps (p.InRow i) action ≡ true) (slot_at i) i
 
@@ -143,14 +143,14 @@ past_end i e d = subst (λ s. EachAction (λ action. keeps (p.InRow i) action �
 keeps_at : (i : ℕ) → KeepsAt i
 keeps_at = each_index KeepsAt (assumption) past_end
 
--- the operand after an operator
+-- reading the operand after an operator respects the bounds
 behind_operator : (level : ℕ) (any : Bool)
     → (are_at_most (reads false any false (p.Right level) (p.InRow BIN_OP_END)) && are_at_most (reads true any false (p.Right level) (p.InRow BIN_OP_END)))
     ≡ true
 behind_operator level true = refl
 behind_operator level false = refl
 
--- so at each position
+-- the action at each position respects the bounds
 kept : (x : Position) (kind : SyntaxKind) (touches : Bool) → keeps x (action_at x (Some kind) touches) ≡ true
 kept (p.InRow i) kind touches = acted (λ action. keeps (p.InRow i) action ≡ true) (slot_at i) i kind touches (keeps_at i)
 kept (p.AfterOperand min_bp max_bp) kind touches =

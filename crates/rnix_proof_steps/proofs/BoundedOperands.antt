@@ -1,4 +1,4 @@
--- What an operand begins with keeps to the bounds of an operand.
+-- Whatever an operand begins with, it respects the bounds for an operand.
 use Rattle.std.{specs.Option.is_some, proofs.{Common.{◌≡◌, ℕ, zero, suc, Bool, true, false, ◌&&◌, List, Option, Some, None, nat_eq, refl, arith}, lemmas.Bool.and_parts}}
 use Rattle.rnix_kinds.specs.declared.kinds.SyntaxKind.{SyntaxKind}
 use Rattle.rnix_grammar.specs.{declared.{operand_start.OperandStart.OperandStart, slot_table.TheConstants.{LEGACY_LET, LAMBDA, BOUND_PATTERN, PATTERN}}, OperandStarts.{operand_start_for, operand_start_of}}
@@ -7,7 +7,7 @@ use Rattle.rnix_proof_steps.proofs.StepBounds.{per_item, are_at_most, AreAtMost,
 use Rattle.rnix_grammar.specs.declared.position.Position.TheVariants as p
 use Rattle.rnix_grammar.specs.declared.operand_start.OperandStart.TheVariants as b
 
--- what the frames need that an operand begins with, at the lowest level or at another
+-- the bounds for the frames with which an operand begins, at the lowest level or at another
 abbrev pub begun_bounds : Bool → Bool → OperandStart → List (ℕ × ℕ)
 begun_bounds levels any (b.Leaf k) = one_frame levels any
 begun_bounds levels any (b.Node k remaining max_bp) = two_frames levels any (p.InRow remaining)
@@ -20,17 +20,17 @@ begun_bounds levels any b.Stray = one_frame levels any
 abbrev fits : Bool → OperandStart → Bool
 fits any how = are_at_most (begun_bounds false any how) && are_at_most (begun_bounds true any how)
 
--- what fits at each level
+-- the bounds hold at any level if they hold at the lowest and at another one
 both : (any : Bool) (how : OperandStart) → (fits false how && fits true how) ≡ true → fits any how ≡ true
 both true how h = (and_parts (fits false how) (fits true how) h).1
 both false how h = (and_parts (fits false how) (fits true how) h).0
 
--- what begins at the lowest level alone need not fit at others
+-- what begins an operand at the lowest level alone need not respect the bounds for others
 abbrev fits_each : Option ℕ → OperandStart → Bool
 fits_each (Some zero) how = fits true how
 fits_each o how = fits false how && fits true how
 
--- so it fits at each level that is allowed
+-- so each beginning respects the bounds at each level at which it is allowed
 fits_at : (o : Option ℕ) (level : ℕ) (how : OperandStart) → fits_each o how ≡ true → IsUpTo o level → fits (nat_eq level 0) how ≡ true
 fits_at (Some zero) zero how h l = h
 fits_at (Some zero) (suc level) how h l = absurd (omega (arith, l))

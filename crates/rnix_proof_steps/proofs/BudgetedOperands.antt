@@ -1,4 +1,4 @@
--- What is enough where an operand begins.
+-- The budget where an operand begins.
 use Rattle.std.proofs.Common.{◌≡◌, ◌≤◌, ℕ, ◌+◌, ◌*◌, Bool, true, List, [], ◌∷◌, max, ap, sym, ◌∙◌, arith}
 use Rattle.rnix_grammar.specs.{declared.{position.Position.Position, operand_start.OperandStart.OperandStart, slot_table.TheConstants.{LEGACY_LET, LAMBDA, PATTERN, BOUND_PATTERN}}, Fault.Fault}
 use Rattle.rnix_grammar.specs.{AnnotatedForest.{Token, AnnotatedForest, head_kind}, Layout.{items, tail_of}}
@@ -9,7 +9,7 @@ use Rattle.rnix_proof_steps.proofs.{BoundedOperands.begun_bounds, Budgets.{ends,
 use Rattle.rnix_grammar.specs.declared.position.Position.TheVariants as p
 use Rattle.rnix_grammar.specs.declared.operand_start.OperandStart.TheVariants as b
 
--- a number is enough for frames that wait for an operand inside so many counted positions, which begins with the item before others
+-- a budget covers the frames that wait for an operand inside `d` counted positions, when the next item begins the operand
 pub record Awaits (levels any : Bool) (c : ℕ) (us : List Token) (d : ℕ) (fs : List Frame) : Type 0 where
   pub last_in : pays levels us + operand_last any + room levels d + ends fs ≤ per_item levels + c
   pub below : ℕ
@@ -17,7 +17,7 @@ pub record Awaits (levels any : Bool) (c : ℕ) (us : List Token) (d : ℕ) (fs 
   pub rest : Covers levels below fs
   pub ended : operand_ended + ends fs ≤ c
 
--- so it is for the operand alone
+-- then it covers the operand's frame
 one_enough : (levels any : Bool) (c : ℕ) (us vs : List Token) (d level max_bp : ℕ) (fs : List Frame) (trees : AnnotatedForest)
     → AreAtMost (one_frame levels any) → pays levels vs ≤ pays levels us → Awaits levels any c us d fs
     → Enough levels c vs (opened Operand (p.AfterOperand level max_bp) d trees ∷ fs)
@@ -29,7 +29,7 @@ one_enough levels any c us (v ∷ vs) d level max_bp fs trees m h e = record {
   rest = e.rest;
 }
 
--- for a node in the operand
+-- it covers a node in the operand
 two_enough : (levels any : Bool) (c : ℕ) (us vs : List Token) (d level max_bp : ℕ) (fs : List Frame) (head : Head) (x : Position)
     (inside trees : AnnotatedForest) → AreAtMost (two_frames levels any x) → pays levels vs ≤ pays levels us → Awaits levels any c us d fs
     → Enough levels c vs (opened head x d inside ∷ (opened Operand (p.AfterOperand level max_bp) d trees ∷ fs))
@@ -46,7 +46,7 @@ two_enough levels any c us (v ∷ vs) d level max_bp fs head x inside trees m h 
       rest = (omega arith, (e.below, omega arith, e.rest));
     }
 
--- for a pattern in a function in the operand
+-- it covers a pattern in a function in the operand
 three_enough : (levels any : Bool) (c more : ℕ) (us vs : List Token) (d level max_bp : ℕ) (fs : List Frame) (head other : Head) (x : Position)
     (inside between trees : AnnotatedForest)
     → AreAtMost (three_frames more levels any x) → more + pays levels vs ≤ pays levels us → Awaits levels any c us d fs
@@ -67,7 +67,7 @@ three_enough levels any c more us (v ∷ vs) d level max_bp fs head other x insi
       rest = (omega arith, (next, omega arith, (omega arith, (e.below, omega arith, e.rest))));
     }
 
--- the items after the first, and after two
+-- the items after the first, or after two, pay no more than all items
 tail_pays : (levels : Bool) (us : List Token) → pays levels (tail_of us) ≤ pays levels us
 tail_pays levels [] = omega arith
 tail_pays levels (t ∷ us) = omega arith
@@ -76,7 +76,7 @@ tail_gains : (levels : Bool) (us : List Token) → is_there (head_kind us) ≡ t
 tail_gains levels [] h = absurd (true_is_not_false (sym h))
 tail_gains levels (t ∷ us) h = omega arith
 
--- for what an operand begins with
+-- it covers whatever the operand begins with
 pub begun_enough : (levels any : Bool) (how : OperandStart) (c level d : ℕ) (t u : Token) (us : List Token) (f : Frame) (fs : List Frame) (ts : List Token)
     (n : ℕ)
     (es : List Fault)

@@ -1,4 +1,4 @@
--- The machine reads each text in so few steps.
+-- The number of steps that the machine needs for a text.
 use Rattle.std.proofs.Common.{◌≡◌, ◌≤◌, ℕ, suc, ◌+◌, ◌*◌, Bool, true, false, List, [], ◌∷◌, length, refl, ap, subst, arith}
 use Rattle.rnix_grammar.specs.{Fault.Fault, AnnotatedForest.Token, Layout.items}
 use Rattle.rnix_proof_lemmas.specs.{FrameKinds.AreStacked, Machine.{Frame, Machine, machine, initial_machine, step, Runs}}
@@ -7,7 +7,7 @@ use Rattle.rnix_proof_lemmas.proofs.StackedFrames.{step_stacked, initial_stacked
 use Rattle.rnix_proof_steps.specs.StepCount.{steps_in, is_finished, AreNeeded, ComesIn}
 use Rattle.rnix_proof_steps.proofs.{Budgets.{pays, Enough, two_least, two_less}, BudgetedSteps.step_leaves}
 
--- a number that is enough for a machine is so for its steps and one more
+-- a budget that covers a machine is at least two for each of its steps, and two more
 within : (levels : Bool) (b : ℕ) (fs : List Frame) (ts : List Token) (n : ℕ) (es : List Fault) (to : Machine) (runs : Runs true (machine fs ts n es) to)
     → AreNeeded true (machine fs ts n es) to runs
     → AreStacked fs → Enough levels b (items ts) fs → 2 + 2 * steps_in runs ≤ b
@@ -24,7 +24,7 @@ within levels b (f ∷ fs) ts n es to (further runs) needed s x =
       within levels less.0 next.frames next.remaining next.prev_end next.faults to runs needed.1 (step_stacked true (machine (f ∷ fs) ts n es) s) remaining,
     )
 
--- what is enough at the beginning
+-- what the items of a whole text pay
 pays_items : (us : List Token) → pays false us ≡ 15 * length us
 pays_items [] = refl
 pays_items (t ∷ us) = omega (arith, pays_items us)
@@ -43,7 +43,7 @@ initial_levels ts [] = omega arith
 initial_levels ts (t ∷ us) =
     record { last_in = omega (arith, pays_levels us); below = 0; closed_in = omega (arith, pays_levels us); rest = tt }
 
--- so many steps are at most fifteen for two items, and one more
+-- by items: at most 15 steps for every two items, plus one
 pub by_items : (steps : ℕ) (ts : List Token) (to : Machine) → ComesIn steps (initial_machine ts) to → 2 * steps ≤ 15 * length (items ts) + 2
 by_items steps ts to c =
     omega (
@@ -52,7 +52,7 @@ by_items steps ts to c =
       within false (15 * length (items ts) + 4) (initial_machine ts).frames ts 0 [] to c.runs c.needed (initial_stacked ts) (initial_items ts (items ts)),
     )
 
--- and at most four for each item, seven for each level of nesting, and one more
+-- by levels: at most four steps for each item, plus 3,585 (seven for each level of nesting, and one)
 pub by_levels : (steps : ℕ) (ts : List Token) (to : Machine) → ComesIn steps (initial_machine ts) to → steps ≤ 4 * length (items ts) + 3585
 by_levels steps ts to c =
     omega (
@@ -61,7 +61,7 @@ by_levels steps ts to c =
       within true (8 * length (items ts) + 7172) (initial_machine ts).frames ts 0 [] to c.runs c.needed (initial_stacked ts) (initial_levels ts (items ts)),
     )
 
--- one step more
+-- a run can be extended by one step
 runs_on : (from m : Machine) → Runs true from m → Runs true from (step true m)
 runs_on from m here = further here
 runs_on from m (further runs) = further (runs_on (step true from) m runs)
@@ -84,6 +84,6 @@ comes_on steps from m c e = record {
   count = omega (arith, c.count, counted_on from m c.runs);
 }
 
--- and one step before
+-- a run that begins with one step more has one step more
 pub comes_before : (steps : ℕ) (from m : Machine) → is_finished true from ≡ false → ComesIn steps (step true from) m → ComesIn (steps + 1) from m
 comes_before steps from m e c = record { runs = further c.runs; needed = (e, c.needed); count = omega (arith, c.count) }

@@ -1,4 +1,4 @@
--- Each step takes two halves of what is enough.
+-- Each step uses up two of the budget.
 use Rattle.std.proofs.Common.{◌≡◌, ◌≤◌, ◌<◌, ℕ, suc, ◌+◌, ◌*◌, Bool, true, false, List, [], ◌∷◌, Some, None, max, if◌then◌else◌, nat_le, nat_eq, refl, ap, sym, ◌∙◌, subst, arith}
 use Rattle.rnix_kinds.specs.declared.kinds.SyntaxKind.TheVariants.{NODE_APPLY}
 use Rattle.rnix_grammar.specs.declared.{position.Position.Position, expected_set.ExpectedSet.ExpectedSet, action.Action.Action, slot_table.TheConstants.{APPLIED, PAT_ENTRY, SECOND_BIND}}
@@ -16,12 +16,12 @@ use Rattle.rnix_proof_steps.proofs.BudgetedOperands.{Awaits, begun_enough}
 use Rattle.rnix_grammar.specs.declared.position.Position.TheVariants as p
 use Rattle.rnix_grammar.specs.declared.action.Action.TheVariants as a
 
--- the root's places
+-- the positions of the root
 abbrev pub is_root : FrameKind → Bool
 is_root Root = true
 is_root s = false
 
--- a run takes an item at least
+-- the items after a run pay no more than all items
 dropped_pays : (levels : Bool) (run us : List Token) → pays levels (dropped run us) ≤ pays levels us
 dropped_pays levels [] us = omega arith
 dropped_pays levels (x ∷ run) [] = dropped_pays levels run []
@@ -38,12 +38,12 @@ remaining_run until ts = (run_bared (run_of until (items ts)) ts (dropped (run_o
 remaining_none : (ts : List Token) → items (run_rest true (items ts) ts) ≡ []
 remaining_none ts = (run_bared (items ts) ts (dropped (items ts) (items ts)) (all_prefix (items ts))).remaining ∙ dropped_all (items ts)
 
--- what is left of a machine is so with a number
+-- the budget covers the frames and the items that a machine has left
 abbrev pub Leaves : Bool → ℕ → Machine → Type 0
 Leaves levels c m = Enough levels c (items m.remaining) m.frames
 
 module _ (levels : Bool) (c : ℕ) (f : Frame) (ts : List Token) (n : ℕ) where
-  -- a frame that is complete goes to the one below, which is there
+  -- when a frame is complete, the budget covers the frame below it, and there is one
   completed_leaves : (t : Token) (us : List Token) (fs : List Frame) (es : List Fault) → items ts ≡ t ∷ us → IsStackedOn f.head f.position fs
       → is_root (frame_kind f.position) ≡ false
       → AreAtMost (closes levels f.position) → IsEnough levels (2 + c) us f fs → Leaves levels c (completed f fs ts n es)
@@ -57,7 +57,7 @@ module _ (levels : Bool) (c : ℕ) (f : Frame) (ts : List Token) (n : ℕ) where
   entry_leaves t us [] es q w r b e = absurd (true_is_not_false (sym (ap is_root w.1) ∙ r))
   entry_leaves t us (g ∷ gs) es q w r b e = completed_leaves t us (g ∷ gs) es q w r b e
 
-  -- so it is where the text has ended
+  -- the same at the end of the text
   completed_ends : (fs : List Frame) (es : List Fault) → items ts ≡ [] → IsStackedOn f.head f.position fs → is_root (frame_kind f.position) ≡ false
       → ends (f ∷ fs) ≤ 2 + c → Leaves levels c (completed f fs ts n es)
   completed_ends [] es q w r e = absurd (true_is_not_false (sym (ap is_root w.1) ∙ r))
@@ -69,7 +69,7 @@ module _ (levels : Bool) (c : ℕ) (f : Frame) (ts : List Token) (n : ℕ) where
   entry_ends [] es q w r e = absurd (true_is_not_false (sym (ap is_root w.1) ∙ r))
   entry_ends (g ∷ gs) es q w r e = completed_ends (g ∷ gs) es q w r e
 
--- a frame waits for an operand inside so many positions, in what was enough for another position; the next item is there
+-- a frame waits for an operand, with the budget that covered its old position; the next item begins the operand
 waits : (levels any counted : Bool) (c d : ℕ) (us : List Token) (f : Frame) (fs : List Frame) (y : Position) (head : Head) (trees : AnnotatedForest)
     → AreAtMost (reads levels any counted f.position y) → room levels f.depth ≡ (if counted then per_level levels else 0) + room levels d
     → IsEnough levels (2 + c) us f fs → Awaits levels any c us d (opened head y f.depth trees ∷ fs)
@@ -85,7 +85,7 @@ waits levels any counted c d us f fs y head trees b r e =
       ended = omega (arith, b.1.1.1.0, r, e.last_in);
     }
 
--- so does an application, with an operand below it
+-- the same for an argument, with an operand below the call
 argument_waits : (levels : Bool) (c min_bp max_bp : ℕ) (us : List Token) (f : Frame) (fs : List Frame) (head other : Head) (inside trees : AnnotatedForest)
     → AreAtMost (applies levels f.position) → IsEnough levels (2 + c) us f fs
     → Awaits levels false c us f.depth (opened head (p.InRow APPLIED) f.depth inside ∷ (opened other (p.AfterOperand min_bp max_bp) f.depth trees ∷ fs))
@@ -106,7 +106,7 @@ argument_waits levels c min_bp max_bp us f fs head other inside trees b e =
       ended = omega (arith, b.1.1.1.1.0, e.last_in);
     }
 
--- an operand begins where an item is next, if the limit is not reached
+-- an operand begins at the next item, if the limit is not reached
 operand_leaves : (levels : Bool) (c level d : ℕ) (t : Token) (us : List Token) (f : Frame) (fs : List Frame) (ts xs : List Token) (n : ℕ) (es : List Fault)
     → items ts ≡ xs → xs ≡ t ∷ us → Awaits levels (nat_eq level 0) c us d (put f.position (with_leading true f.children ts) f ∷ fs)
     → Leaves levels c (operand_on true level d f fs ts xs n es)
@@ -119,7 +119,7 @@ operand_leaves levels c level d t us f fs ts (x ∷ xs) n es q e w =
     (subst (λ us. Awaits levels (nat_eq level 0) c us d (put f.position (with_leading true f.children ts) f ∷ fs)) (sym rest) w)
 
 module _ (levels : Bool) (c : ℕ) (f : Frame) (fs : List Frame) (ts : List Token) (n : ℕ) (es : List Fault) (w : IsStackedOn f.head f.position fs) where
-  -- where an item is next
+  -- while an item is left
   module _ (t : Token) (us : List Token) (q : items ts ≡ t ∷ us) (e : IsEnough levels (2 + c) us f fs) where
     taken : pays levels (items (after_item true ts)) ≤ pays levels us
     taken = omega (arith, ap (pays levels) (items_behind ts ∙ ap tail_of q))
@@ -130,7 +130,7 @@ module _ (levels : Bool) (c : ℕ) (f : Frame) (fs : List Frame) (ts : List Toke
     none : {A : Type 0} → head_kind (items ts) ≡ None → A
     none h = absurd (true_is_not_false (ap is_there (sym there ∙ h)))
 
-    -- all that is left is taken
+    -- everything that is left is put into one error node
     limited_leaves : (after : ℕ) → 2 + 2 * measure (p.InRow after) ≤ last levels f.position
         → Leaves levels c (limited true (put (p.InRow after) f.children f) fs ts n es)
     limited_leaves after h =
@@ -191,7 +191,7 @@ module _ (levels : Bool) (c : ℕ) (f : Frame) (fs : List Frame) (ts : List Toke
     action_leaves a.ApplyOr al b =
         moved_enough levels c us (items (after_item true ts)) f fs Operand (p.AfterOperand (min_bp_of f.position) 15) _ b taken e
 
-  -- where the text has ended
+  -- at the end of the text
   module _ (q : items ts ≡ []) (e : ends (f ∷ fs) ≤ 2 + c) where
     missing : head_kind (items ts) ≡ None
     missing = ap head_kind q
@@ -199,7 +199,7 @@ module _ (levels : Bool) (c : ℕ) (f : Frame) (fs : List Frame) (ts : List Toke
     some : {A : Type 0} → is_there (head_kind (items ts)) ≡ true → A
     some h = absurd (true_is_not_false (sym h ∙ ap is_there missing))
 
-    -- a row comes nearer to its end
+    -- each step brings a row nearer to its end
     nearer : (after : ℕ) → IsNext f.position (head_kind (items ts)) after → measure (p.InRow after) < measure f.position
     nearer after h = (subst (λ next. IsNext f.position next after) missing h).1
 
@@ -251,7 +251,7 @@ module _ (levels : Bool) (c : ℕ) (f : Frame) (fs : List Frame) (ts : List Toke
     action_ends a.Apply al g = some al.0
     action_ends a.ApplyOr al g = some al.0
 
-  -- so each step leaves enough
+  -- so after each step the rest of the budget covers what is left
   pub step_leaves : Enough levels (2 + c) (items ts) (f ∷ fs) → is_finish (action_at f.position (head_kind (items ts)) (touches n (items ts))) ≡ false
       → Leaves levels c (perform true (action_at f.position (head_kind (items ts)) (touches n (items ts))) f fs ts n es)
   step_leaves e g = by (items ts) refl e

@@ -1,5 +1,5 @@
--- Bounds on the steps that are left, in halves of a step. They are tables that the proof needs; that the actions keep to them is computed. There are two
--- sets of them: in one the levels of nesting that are left are counted apart from the items, in the other they are not.
+-- Bounds on the steps that are left, in half steps. These tables are needed by the proof only; that the actions respect them is computed. There are two
+-- sets of bounds: one counts the levels of nesting that are left apart from the items, the other does not.
 use Rattle.std.proofs.Common.{◌≡◌, ◌≤◌, ℕ, suc, ◌+◌, ◌*◌, ◌-◌, Bool, true, false, ◌&&◌, List, [], ◌∷◌, Option, Some, None, if◌then◌else◌, nat_le, refl, arith}
 use Rattle.std.proofs.lemmas.Bool.{and_parts, Decides.nat_tests}
 use Rattle.rnix_kinds.specs.declared.kinds.SyntaxKind.TheVariants.{TOKEN_L_BRACE, TOKEN_OR}
@@ -8,22 +8,22 @@ use Rattle.rnix_proof_lemmas.specs.Measures.{measure}
 use Rattle.rnix_grammar.specs.declared.position.Position.TheVariants as p
 use Rattle.rnix_grammar.specs.declared.rules.Part.TheVariants as r
 
--- for each item
+-- the budget for each item
 abbrev pub per_item : Bool → ℕ
 per_item true = 8
 per_item false = 15
 
--- for each level of nesting
+-- the budget for each level of nesting
 abbrev pub per_level : Bool → ℕ
 per_level true = 14
 per_level false = 0
 
--- for the levels that are left inside so many counted positions
+-- the budget for the levels that are left inside `d` counted positions
 abbrev pub room : Bool → ℕ → ℕ
 room true d = 14 * (depth_limit - d)
 room false d = 0
 
--- where an operand or an entry may begin, for what it may leave open
+-- the budget for what an operand or an entry that may begin here can leave open
 abbrev pub extra_in : Bool → Option Slot → ℕ
 extra_in levels (Some (Next (r.Entries closer))) = if levels then 14 else 7
 extra_in levels (Some (Next (r.Wanted TOKEN_L_BRACE))) = if levels then 6 else 0
@@ -33,7 +33,7 @@ extra_in levels (Some (Next (r.Operand level false))) = 12
 extra_in levels (Some (Next (r.EndOr TOKEN_OR))) = 8
 extra_in levels slot = 0
 
--- what is left after an attribute path
+-- the slot after an attribute path
 abbrev pub behind_path : ℕ → Option Slot → Option Slot
 behind_path i (Some (Next r.Attrpath)) = slot_at (i + 1)
 behind_path i slot = slot
@@ -43,7 +43,7 @@ extra levels (p.InRow i) = extra_in levels (behind_path i (slot_at i))
 extra levels (p.AfterOperand min_bp max_bp) = if levels then 16 else 3
 extra levels (p.Right level) = if levels then 14 else 0
 
--- if the text ends in a frame or above it: for the frame
+-- the budget for a frame if the text ends in it or above it
 abbrev pub held : Bool → Position → ℕ
 held levels x = 2 * measure x + extra levels x
 
@@ -56,13 +56,13 @@ closing_in (Some (Next r.PathPieces)) = 2
 closing_in (Some (Next r.BoundAlready)) = 2
 closing_in slot = 0
 
--- if the frame is complete before the text ends
+-- the budget for a frame that is complete before the text ends
 abbrev pub closing : Position → ℕ
 closing (p.InRow i) = closing_in (behind_path i (slot_at i))
 closing (p.AfterOperand min_bp max_bp) = 2
 closing (p.Right level) = 0
 
--- for the next item, where the frame is the innermost: less where a node has begun that needs it
+-- the budget for the next item in the innermost frame: less if a node that needs the item has begun
 abbrev pub held_next : ℕ → Option Slot → ℕ
 held_next most (Some (Next r.Attr)) = 6
 held_next most (Some (Next r.Attrpath)) = 6
@@ -73,7 +73,7 @@ closing_next most (Some (Next r.Attr)) = 4
 closing_next most (Some (Next r.Attrpath)) = 6
 closing_next most slot = most
 
--- so it is for the innermost frame and the next item together
+-- the budget for the innermost frame and the next item together
 abbrev pub last : Bool → Position → ℕ
 last levels (p.InRow i) = held_next (per_item levels) (slot_at i) + held levels (p.InRow i)
 last levels x = per_item levels + held levels x
@@ -112,7 +112,7 @@ last_least levels (p.InRow i) = omega arith
 last_least levels (p.AfterOperand min_bp max_bp) = omega arith
 last_least levels (p.Right level) = omega arith
 
--- a level is left where the limit is not reached
+-- inside a counted position below the limit, one level less is left
 not_full : (d : ℕ) → nat_le depth_limit d ≡ false → suc d ≤ depth_limit
 not_full d h = grind (arith, nat_tests, h)
 
@@ -120,7 +120,7 @@ pub room_inside : (levels : Bool) (d : ℕ) → nat_le depth_limit d ≡ false �
 room_inside true d h = let some : suc d ≤ depth_limit = not_full d h in omega (arith, some)
 room_inside false d h = refl
 
--- numbers that are at most others
+-- in each pair the first number is at most the second
 abbrev pub are_at_most : List (ℕ × ℕ) → Bool
 are_at_most [] = true
 are_at_most (x ∷ xs) = nat_le x.0 x.1 && are_at_most xs
@@ -140,18 +140,18 @@ they_are (x ∷ xs) h = let both = and_parts (nat_le x.0 x.1) (are_at_most xs) h
 abbrev pub operand : Position
 operand = p.AfterOperand 0 0
 
--- for an operand of the lowest level, or of another, with the item that begins it
+-- the budget for an operand with the item that begins it, at the lowest level or at another
 abbrev pub operand_last : Bool → ℕ
 operand_last any = if any then 30 else 28
 
 abbrev pub operand_closed : Bool → ℕ
 operand_closed levels = per_item levels + 4
 
--- where the text ends after its first items
+-- the budget for an operand if the text ends after its first items
 abbrev pub operand_ended : ℕ
 operand_ended = 14
 
--- what a frame needs that is complete, or continues at another position
+-- the bounds for a frame that is complete, or moves to another position
 abbrev pub closes : Bool → Position → List (ℕ × ℕ)
 closes levels x = (2 + per_item levels, closed levels x) ∷ []
 
@@ -160,7 +160,7 @@ moves levels x y =
     (2 + last levels y, per_item levels + last levels x)
     ∷ ((2 + closed levels y, per_item levels + closed levels x) ∷ ((2 + 2 * measure y, last levels x) ∷ []))
 
--- where a node is opened in a frame that waits at another position, with an item or without
+-- the bounds for a node that opens in a frame that waits at another position, with an item or without
 abbrev pub pushes : ℕ → Bool → Position → Position → Position → List (ℕ × ℕ)
 pushes gain levels x inside y =
     (2 + last levels inside + 2 * measure y, gain + last levels x)
@@ -169,7 +169,7 @@ pushes gain levels x inside y =
 abbrev pub opens : Bool → Position → Position → Position → List (ℕ × ℕ)
 opens levels x inside y = (2 + 2 * measure inside + 2 * measure y, last levels x) ∷ pushes (per_item levels) levels x inside y
 
--- where an operand is read, counted or not, in a frame that waits at another position
+-- the bounds for reading an operand, counted or not, in a frame that waits at another position
 abbrev pub level_of : Bool → Bool → ℕ
 level_of levels counted = if counted then per_level levels else 0
 
@@ -180,7 +180,7 @@ reads levels any counted x y =
     ∷ ((2 + operand_closed levels + closing y, per_item levels + closed levels x)
     ∷ ((2 + operand_ended + 2 * measure y, last levels x + level_of levels counted) ∷ ((2 + 2 * measure y, last levels x) ∷ []))))
 
--- where an argument is read, with an operand that waits below the application
+-- the bounds for reading an argument, with an operand that waits below the call
 abbrev pub applies : Bool → Position → List (ℕ × ℕ)
 applies levels x =
     (2 + operand_last false + 2 * measure (p.InRow APPLIED) + 2 * measure operand, per_item levels + last levels x)
@@ -189,7 +189,7 @@ applies levels x =
     ∷ ((2 + operand_closed levels + closing (p.InRow APPLIED) + closing operand, per_item levels + closed levels x)
     ∷ ((2 + operand_ended + 2 * measure (p.InRow APPLIED) + 2 * measure operand, last levels x) ∷ []))))
 
--- what an operand needs that begins: one frame, two, or three, where the second is a function's
+-- the bounds for an operand that begins: with one frame, two, or three, of which the second is a function's
 abbrev pub one_frame : Bool → Bool → List (ℕ × ℕ)
 one_frame levels any = (last levels operand, operand_last any) ∷ ((closed levels operand, operand_closed levels) ∷ ((2 * measure operand, operand_ended) ∷ []))
 

@@ -1,4 +1,4 @@
--- How many steps some texts need, by computation: the first three as many as they may.
+-- The number of steps for some texts, by computation. The first three need as many as any text of their length may.
 use Rattle.std.proofs.Common.{◌≡◌, ℕ, zero, suc, true, List, [], ◌∷◌, if◌then◌else◌, codes, refl}
 use Rattle.rnix_kinds.specs.Lexical.Tokens.{Lexeme}
 use Rattle.rnix_kinds.specs.declared.kinds.SyntaxKind.TheVariants.{TOKEN_WHITESPACE, TOKEN_LET, TOKEN_INTERPOL_START, TOKEN_STRING_START, TOKEN_IDENT, TOKEN_PATH_REL}
@@ -6,7 +6,7 @@ use Rattle.rnix_grammar.specs.AnnotatedForest.{placed_from}
 use Rattle.rnix_proof_lemmas.specs.Machine.{Machine, initial_machine, step}
 use Rattle.rnix_proof_steps.specs.StepCount.{is_finished}
 
--- the steps of a machine until the root is complete, or so many
+-- the number of steps until the root is complete, up to a maximum
 abbrev steps_until : ℕ → Machine → ℕ
 steps_until zero m = 0
 steps_until (suc n) m = if is_finished true m then 0 else suc (steps_until n (step true m))
@@ -20,7 +20,7 @@ space = (TOKEN_WHITESPACE, codes " ")
 abbrev let_begun : List Lexeme → List Lexeme
 let_begun tokens = (TOKEN_LET, codes "let") ∷ (space ∷ tokens)
 
--- the empty text; `let ''`; `let ${let ''`
+-- the empty text needs one step; then `let ''` and `let ${let ''`
 pub for_nothing : steps_for [] ≡ 1
 for_nothing = refl
 

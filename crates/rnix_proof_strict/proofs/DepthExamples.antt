@@ -9,7 +9,7 @@ use Rattle.{rnix_kinds.specs.declared.kinds.SyntaxKind.TheVariants.{NODE_SELECT,
 use Rattle.rnix_grammar.specs.{declared.rules.Part.TheVariants.{Argument, Names, Wanted}, AnnotatedForest.{Token, AnnotatedForest, Stray, Extra, one_token}}
 use Rattle.rnix_grammar.specs.{AnnotatedForest.one_fault, Rules.{done, ◌·◌, row}, Repaired.repaired, Nest.nest, AllowedNames.is_named}
 
--- trees, each in front of some others
+-- abbreviations for trees in front of others
 abbrev named : List ℕ → Forest → Forest
 named text f = node NODE_IDENT (leaf TOKEN_IDENT text empty) f
 
@@ -52,7 +52,7 @@ braces a f = leaf TOKEN_L_BRACE (codes "{") (a (leaf TOKEN_R_BRACE (codes "}") f
 abbrev default_entry : Forest → Forest
 default_entry f = node NODE_PAT_ENTRY (named (codes "b") (leaf TOKEN_QUESTION (codes "?") (one empty))) f
 
--- where the names `or` and `__curPos` may be
+-- tokens `or` and `__curPos`, and where they may be names
 abbrev or_token : Token
 or_token = record { kind = TOKEN_OR; text = codes "or"; start = 0; end = 2 }
 
@@ -77,7 +77,7 @@ names :
     ≡ false ∷ true ∷ true ∷ false ∷ false ∷ false ∷ true ∷ true ∷ true ∷ false ∷ []
 names = refl
 
--- an error node that is repaired
+-- the repair of an error node for a stray item
 stray_repaired : repaired (one_fault Stray (one_token TOKEN_OR or_token)) ≡ node NODE_LITERAL (leaf TOKEN_INTEGER (codes "0") empty) empty
 stray_repaired = refl
 

@@ -26,7 +26,7 @@ node_first n c f = record { tokens = and_from _ _ c.tokens f.tokens; extension =
 one_token : {parent k : SyntaxKind} {t : List ℕ} → is_token k ≡ true → IsFine parent (leaf k t empty)
 one_token i = token_first i fine_end
 
--- a lambda is at the lowest level alone, and an interpolation as an attribute at none
+-- no atom is a lambda, and no simple attribute an interpolation
 no_lambda : {c : Forest} → G.Atom NODE_LAMBDA c → ⊥
 no_lambda h = elim h [ ]
 
@@ -169,6 +169,6 @@ mutual
   formal_fine (G.entry o) = name_first fine_end
   formal_fine (G.default_entry o h) = name_first (token_first refl (operand refl h (strict_fine h) fine_end))
 
--- an expression has tokens alone as leaves, and no accepted extension
+-- the leaves of an expression are tokens, and no tree in it is an accepted extension
 pub expression_fine : {f : Forest} → G.IsExpression f → IsFine NODE_ROOT f
 expression_fine (G.expression h) = operand refl h (strict_fine h) fine_end

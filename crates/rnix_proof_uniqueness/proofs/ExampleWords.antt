@@ -1,15 +1,15 @@
--- Words for trees and errors of examples.
+-- Abbreviations for the trees and errors of examples.
 use Rattle.{std.proofs.Common.{ℕ, zero, suc}, rnix_kinds.specs.declared.kinds.SyntaxKind.{SyntaxKind, TheVariants.{NODE_ATTRPATH, NODE_BIN_OP, NODE_IDENT}}}
 use Rattle.rnix_kinds.specs.declared.kinds.SyntaxKind.TheVariants.{NODE_IDENT_PARAM, NODE_LAMBDA, NODE_LIST, NODE_PAREN, NODE_PATTERN, NODE_PAT_ENTRY}
 use Rattle.{rnix_kinds.specs.declared.kinds.SyntaxKind.TheVariants.NODE_SELECT, rnix_green.specs.Range.Extent, rnix_grammar.specs.declared.expected_set.ExpectedSet.ExpectedSet}
 use Rattle.rnix_grammar.specs.{Fault.{Fault, extra, unwanted, unexpected_eof_wanted}, Tables.wanted_kinds, AnnotatedForest.{Unwanted, Extra}}
 use Rattle.rnix_proof_uniqueness.proofs.OnlyReading.{Shape, done, item, node, wrong}
 
--- a tree, before those after it
+-- trees in front of others
 abbrev pub Grows : Type 0
 Grows = Shape → Shape
 
--- so many leaves
+-- `n` leaves in a row
 abbrev pub run : ℕ → Shape
 run zero = done
 run (suc n) = item (run n)
@@ -46,7 +46,7 @@ function_of c b f = node NODE_LAMBDA (node NODE_PATTERN c b) f
 abbrev pub entry : Grows
 entry f = node NODE_PAT_ENTRY (name done) f
 
--- a parenthesis, of what follows its first item
+-- a parenthesis, given what follows its first item
 abbrev pub paren : Shape → Grows
 paren c f = node NODE_PAREN (item c) f
 
@@ -54,11 +54,11 @@ paren c f = node NODE_PAREN (item c) f
 abbrev pub no_list : Grows
 no_list f = node NODE_LIST (run 2) f
 
--- so many items, up to one that is wanted
+-- an error node over a run of `n` items, up to one that is wanted
 abbrev pub unwanteds : ExpectedSet → ℕ → Grows
 unwanteds until n f = wrong (Unwanted until) (run n) f
 
--- so many items after the root's expression
+-- an error node over `n` items after the root's expression
 abbrev pub extras : ℕ → Shape
 extras n = wrong Extra (run n) done
 
@@ -66,14 +66,14 @@ extras n = wrong Extra (run n) done
 abbrev pub within : ℕ → ℕ → Extent
 within start end = record { start = start; end = end }
 
--- items come after the root's expression
+-- the error about items after the root's expression
 abbrev pub is_extra : ℕ → ℕ → Fault
 is_extra start end = extra (within start end)
 
--- items stand where others are wanted
+-- the error about items in place of expected ones
 abbrev pub instead : ExpectedSet → SyntaxKind → ℕ → ℕ → Fault
 instead until kind start end = unwanted kind (within start end) (wanted_kinds until)
 
--- the text ends where an item is wanted
+-- the error about a missing item at the end of the text
 abbrev pub missing : ExpectedSet → Fault
 missing until = unexpected_eof_wanted (wanted_kinds until)

@@ -1,4 +1,4 @@
--- Functions are read as operands, if smaller forests are read.
+-- Functions and old `let`s are read as operands, if smaller forests are.
 use Rattle.std.proofs.Common.{◌≡◌, ℕ, true, false, List, [], ◌∷◌, ◌++◌, refl, ap, sym, ◌∙◌, subst, append-nil, ◌⊎◌, inl, inr, append_assoc}
 use Rattle.rnix_kinds.{proofs.AllKinds.implied, specs.declared.kinds.SyntaxKind.{SyntaxKind, TheVariants.{TOKEN_L_BRACE, TOKEN_LET, NODE_ERROR}}}
 use Rattle.rnix_kinds.specs.declared.kinds.SyntaxKind.TheVariants.{NODE_LEGACY_LET, TOKEN_AT, TOKEN_IDENT, NODE_IDENT, NODE_IDENT_PARAM, NODE_LAMBDA}
@@ -26,14 +26,14 @@ stray_reads t d n us level F fs gs min_bp begins = record {
   runs = runs_from (ap (λ z. begun false z level d t F fs (t ∷ us) n gs) (begins_so NODE_ERROR level t us begins).0) here;
 }
 
--- no such expression is an entry, a second name or the root
+-- no expression that begins with an item is an entry, a second name or the root
 led_inner : (k : SyntaxKind) → begins_with_item k ≡ true → is_inner k ≡ true
 led_inner = implied begins_with_item is_inner refl
 
 led_closed : (k : SyntaxKind) → begins_with_item k ≡ true → is_closed k ≡ true
 led_closed = implied begins_with_item is_closed refl
 
--- an expression that begins with an item
+-- the steps read an expression that begins with an item, if they read its row after that item
 led_item : (m : ℕ) → AllRows m → (k : SyntaxKind) (d n : ℕ) (us : List Token) (t : Token) (f : AnnotatedForest) (es : List Fault) → begins_with_item k ≡ true
     → Complete m k d t.end (after (row_of_kind k) (leaf_kind k t)) (one_token (leaf_kind k t) t) us f es
     → ReadsTree d n (t ∷ tokens_in f) (one_branch k (token (leaf_kind k t) t f)) us es
@@ -68,11 +68,11 @@ led_item m rows k d n us t f es h r level F fs gs min_bp begins = by (begins_led
           (operand_read (read_on rows (p.InRow z) c (complete_to g refl r)) (led_inner k h) (led_closed k h) (p.AfterOperand level max_bp) d (F ∷ fs) gs);
     }
 
--- no node is first in such an expression
+-- the row of such an expression does not begin with a node
 led_no_node : (k : SyntaxKind) → begins_with_item k ≡ true → has_no_node_next (row_of_kind k) ≡ true
 led_no_node = implied begins_with_item (λ k. has_no_node_next (row_of_kind k)) refl
 
--- so each is read
+-- so the steps read each such expression
 pub led_reads : (m : ℕ) → AllRows m → (k : SyntaxKind) → begins_with_item k ≡ true → KindReads m k
 led_reads m rows k h d n us c es r =
     let w = item_next (led_no_node k h) r in
@@ -94,7 +94,7 @@ legacy_item m rows d n us t v f es r level F fs gs min_bp begins =
           (operand_read (read_on rows (p.InRow LEGACY_LET) refl r) refl refl (p.AfterOperand level 0) d (F ∷ fs) gs);
     }
 
--- so it is by its row
+-- the same, from a reading of its row
 pub legacy_reads : (m : ℕ) → AllRows m → KindReads m NODE_LEGACY_LET
 legacy_reads m rows d n us c es r =
     let w = item_next refl r in
@@ -106,15 +106,15 @@ legacy_reads m rows d n us c es r =
     (ap (after (Child TOKEN_L_BRACE · remaining_at LEGACY_LET))
     (only (λ j. is_viable (after (Child TOKEN_L_BRACE · remaining_at LEGACY_LET) j)) TOKEN_L_BRACE refl v.item.kind v.alive)) refl v.rest))
 
--- the steps read the rest of a function's row after its parameter
+-- the steps read the rest of a function's row, after its parameter
 abbrev Body : SyntaxKind → ℕ → ℕ → AnnotatedForest → List Token → AnnotatedForest → List Fault → Type 0
 Body k d n c us f es = ReadOn NODE_LAMBDA d (end_from n (tokens_in c)) (p.InRow LAMBDA) (one_branch k c) us f es
 
--- so the function is read
+-- the steps read a function of a parameter
 abbrev IsFunction : SyntaxKind → ℕ → ℕ → AnnotatedForest → AnnotatedForest → List Token → List Fault → List Fault → Type 0
 IsFunction k d n c f us ds es = Body k d n c us f es → ReadsTree d n (tokens_in c ++ tokens_in f) (one_branch NODE_LAMBDA (branch k c f)) us ((ds ++ []) ++ es)
 
--- a function whose steps are known after its beginning
+-- the steps read a function, if they read its beginning and the rest of its row
 function_read : (level d n : ℕ) (zs : List Token) (c : AnnotatedForest) (us : List Token) (es : List Fault) (F : Frame) (fs : List Frame) (gs : List Fault)
     (t : Token) (ts : List Token) (how : OperandStart)
     → zs ++ us ≡ t ∷ ts → operand_start_of level t.kind t.text (head_kind ts) (second_kind ts) ≡ how
@@ -129,7 +129,7 @@ function_read level d n zs c us es F fs gs t ts how e h r = record {
       (ap (λ z. operand_on false level d F fs z z n gs) e ∙ ap (λ z. begun false z level d t F fs (t ∷ ts) n gs) h) r;
 }
 
--- a function of a name
+-- the steps read a function of a name
 named_item : (t : Token) (f : AnnotatedForest) (d n : ℕ) (us : List Token) (es : List Fault) → leaf_kind NODE_IDENT t ≡ TOKEN_IDENT
     → Body NODE_IDENT_PARAM d n (one_branch NODE_IDENT (one_token (leaf_kind NODE_IDENT t) t)) us f es
     → ReadsTree d n (t ∷ tokens_in f) (one_branch NODE_LAMBDA (branch NODE_IDENT_PARAM (one_branch NODE_IDENT (one_token (leaf_kind NODE_IDENT t) t)) f)) us es
@@ -144,14 +144,14 @@ named_item t f d n us es k r level F fs gs min_bp begins =
 parameter_first : (i : SyntaxKind) → is_viable (after (row_of_kind NODE_IDENT_PARAM) i) ≡ true → i ≡ NODE_IDENT
 parameter_first i l = only (λ j. is_viable (after (row_of_kind NODE_IDENT_PARAM) j)) NODE_IDENT refl i l
 
--- no token has the kind of a name's node and of a name
+-- no kind is both a name's node and a name's token
 no_name : (k : SyntaxKind) → k ≡ NODE_IDENT → k ≡ TOKEN_IDENT → ⊥
 no_name k e h = other (sym e ∙ h)
   where
     other : NODE_IDENT ≡ TOKEN_IDENT → ⊥
     other h = cc
 
--- so it is by the row of the parameter
+-- the same, from a reading of the parameter's row
 named_reads : (m d n : ℕ) (us : List Token) (c f : AnnotatedForest) (ds es : List Fault)
     → Complete m NODE_IDENT_PARAM d n (row_of_kind NODE_IDENT_PARAM) blank (tokens_in f ++ us) c ds
     → IsFunction NODE_IDENT_PARAM d n c f us ds es
@@ -169,7 +169,7 @@ named_reads m d n us c f ds es r = by (item_or_name refl (front_of refl r refl))
         subst (λ ds. IsFunction NODE_IDENT_PARAM d n c f us ds es) (sym u.1) (subst (λ c. IsFunction NODE_IDENT_PARAM d n c f us [] es)
         (sym (t.is ∙ ap (λ q. branch NODE_IDENT (one_token (leaf_kind NODE_IDENT t.item) t.item) q) u.0)) (named_item t.item f d n us es t.kind))
 
--- a pattern that has begun, and the rest of its function
+-- the steps read a function whose pattern has begun, and the rest of its row
 pattern_runs : {x : Position} {g c f : AnnotatedForest} {level d m : ℕ} {F : Frame} {fs : List Frame} {us : List Token} {es ds gs : List Fault}
     → ReadOn NODE_PATTERN d m x g (tokens_in f ++ us) c es
     → ReadOn NODE_LAMBDA d (end_from m (tokens_in c)) (p.InRow LAMBDA) (one_branch NODE_PATTERN (g ⊕ c)) us f ds
@@ -185,22 +185,22 @@ pattern_runs {x} {g} {c} {f} {level} {d} {m} {F} {fs} {us} {es} {ds} {gs} row mo
     (runs_to (cc (append_assoc gs (es ++ []) ds, end_behind m (tokens_in c) (tokens_in f)))
     (operand_read more refl refl (p.AfterOperand level 16) d (F ∷ fs) (gs ++ (es ++ [])))))
 
--- the first item of a pattern without a name before it
+-- a pattern without a bound name before it begins with `{`
 brace_kind : (i : SyntaxKind) → is_viable (after (row_of_kind NODE_PATTERN) i) ≡ true → BegunBy i (operand_start_for NODE_PATTERN i) → i ≡ TOKEN_L_BRACE
 brace_kind TOKEN_L_BRACE l w = refl
 brace_kind _ l w = cc
 
--- and of one with a name
+-- a pattern with a bound name before it begins with that name
 name_kind : (i : SyntaxKind) → leaf_kind_as NODE_IDENT i ≡ TOKEN_IDENT → BegunBy i (operand_start_for NODE_PATTERN i) → i ≡ TOKEN_IDENT
 name_kind TOKEN_IDENT h w = refl
 name_kind _ h w = cc
 
--- no pattern begins with a token of the row that binds its name
+-- no pattern begins with a token of the bound name's row
 no_bind : (i : SyntaxKind) → is_viable (after (row_of_kind NODE_PAT_BIND) i) ≡ true → BegunBy i (operand_start_for NODE_PATTERN i) → ⊥
 no_bind TOKEN_AT l w = cc
 no_bind _ l w = cc
 
--- a function of a pattern that begins with a brace
+-- the steps read a function of a pattern that begins with `{`
 braced_reads : (m : ℕ) → AllRows m → (d n : ℕ) (t : Token) (us : List Token) (c f : AnnotatedForest) (ds es : List Fault)
     → is_viable (after (row_of_kind NODE_PATTERN) t.kind) ≡ true
     → Complete m NODE_PATTERN d t.end (after (row_of_kind NODE_PATTERN) t.kind) (one_token t.kind t) (tokens_in f ++ us) c ds
@@ -218,7 +218,7 @@ braced_reads m rows d n t us c f ds es l r more level F fs gs min_bp begins =
 abbrev name_at : Token → Token → AnnotatedForest
 name_at t v = branch NODE_IDENT (one_token (leaf_kind NODE_IDENT t) t) (one_token v.kind v)
 
--- a function of a pattern that begins with a name
+-- the steps read a function of a pattern that begins with a bound name
 bound_item : (t v : Token) (c f : AnnotatedForest) (d n : ℕ) (us : List Token) (ds es : List Fault) → leaf_kind NODE_IDENT t ≡ TOKEN_IDENT
     → ReadOn NODE_PATTERN d v.end (p.InRow BOUND_PATTERN) (one_branch NODE_PAT_BIND (name_at t v)) (tokens_in f ++ us) c ds
     → Body NODE_PATTERN d n (branch NODE_PAT_BIND (name_at t v) c) us f es
@@ -232,7 +232,7 @@ bound_item t v c f d n us ds es h r more level F fs gs min_bp begins =
     function_read level d n (t ∷ (v ∷ (tokens_in c ++ tokens_in f))) x us ((ds ++ []) ++ es) F fs gs t ts b.BoundLambda refl
     (w.0 ∙ ap (operand_start_for NODE_PATTERN) k) (pattern_runs r more)
 
--- so it is by the row of the name
+-- the same, from a reading of the bound name's row
 bound_reads : (m : ℕ) → AllRows m → (d n : ℕ) (us : List Token) (c g f : AnnotatedForest) (bs ds es : List Fault)
     → Complete m NODE_PAT_BIND d n (row_of_kind NODE_PAT_BIND) blank (tokens_in g ++ (tokens_in f ++ us)) c bs
     → Complete m NODE_PATTERN d (end_from n (tokens_in c)) (remaining_at BOUND_PATTERN) (one_branch NODE_PAT_BIND c) (tokens_in f ++ us) g ds
@@ -257,7 +257,7 @@ bound_reads m rows d n us c g f bs ds es r r' = by (item_or_name refl (front_of 
         → IsFunction NODE_PATTERN d n (branch NODE_PAT_BIND c g) f us ds es) (sym e)
         (λ r more. bound_item t.item v.item g f d n us ds es t.kind (read_on rows (p.InRow BOUND_PATTERN) refl r) more) r')
 
--- a function of a pattern is read
+-- the steps read a function of a pattern
 pattern_reads : (m : ℕ) → AllRows m → (d n : ℕ) (us : List Token) (c f : AnnotatedForest) (ds es : List Fault)
     → Front m NODE_PATTERN d n (row_of_kind NODE_PATTERN) blank (tokens_in f ++ us) c ds → IsFunction NODE_PATTERN d n c f us ds es
 pattern_reads m rows d n us _ f _ es (by_leaf {t = t} {f = g} {es = ds} e w l r) =
@@ -273,13 +273,13 @@ pattern_reads m rows d n us _ f _ es (by_node {k = i} {c = c} {f = g} {ds = bs} 
     (sym (only_both (λ j. is_viable (after (row_of_kind NODE_PATTERN) j)) (λ j. is_viable (row_of_kind j)) NODE_PAT_BIND refl i l (complete_viable r)))
     (λ r r'. bound_reads m rows d n us c g f bs ds es r r') r r'
 
--- the parameters of functions
+-- a function begins with a name as its parameter, or with a pattern
 lambda_first : (i : SyntaxKind) → is_viable (after (row_of_kind NODE_LAMBDA) i) ≡ true → (i ≡ NODE_IDENT_PARAM) ⊎ (i ≡ NODE_PATTERN)
 lambda_first NODE_IDENT_PARAM h = inl refl
 lambda_first NODE_PATTERN h = inr refl
 lambda_first _ h = absurd (true_is_not_false (sym h))
 
--- the row of a function by its parameter
+-- the parameter of a function and the rest of its row are read
 abbrev Parameter : ℕ → ℕ → ℕ → List Token → AnnotatedForest → AnnotatedForest → List Fault → List Fault → SyntaxKind → Type 0
 Parameter m d n us c f ds es k =
     Complete m k d n (row_of_kind k) blank (tokens_in f ++ us) c ds

@@ -1,4 +1,4 @@
--- What is done at each position of a row is the one thing that a reading may have there: this is one table of tests, beside ActionTable.
+-- The reader's action at each position of a row is the only one with which a reading can continue there: one table of tests, beside ActionTable.
 use Rattle.std.proofs.Common.{◌≡◌, ℕ, Bool, true, false, ◌&&◌, ◌||◌, List, [], ◌∷◌, Option, Some, None, refl, ap, sym, ◌∙◌, subst, if◌then◌else◌}
 use Rattle.{std.{proofs.lemmas.Bool.and_parts, specs.{List.{list_all, list_any}, Prelude.drop}}, rnix_kinds.proofs.AllKinds.{all_kinds, every}}
 use Rattle.rnix_kinds.specs.declared.kinds.SyntaxKind.{SyntaxKind, TheVariants.{NODE_BIN_OP, NODE_ERROR, NODE_IDENT, NODE_LITERAL, NODE_PAT_ENTRY, NODE_ROOT}}
@@ -14,13 +14,13 @@ use Rattle.rnix_proof_uniqueness.proofs.ViableReadings.{as_expected}
 use Rattle.rnix_grammar.specs.declared.position.Position.TheVariants as p
 use Rattle.rnix_grammar.specs.declared.action.Action.TheVariants as a
 
--- a position of the row of a node of a kind, where the reader waits
+-- a position in the row of a node of the kind, at which the reader may be
 abbrev pub is_at : SyntaxKind → Position → Bool
 is_at k (p.InRow i) = same_kind (kind_at i) k && is_waiting (remaining_at i)
 is_at k (p.AfterOperand min_bp max_bp) = false
 is_at k (p.Right level) = same_kind NODE_BIN_OP k
 
--- where what is done leads to
+-- the index to which an action leads
 abbrev pub goal : Action → ℕ
 goal (a.Take y) = y
 goal (a.Miss y) = y
@@ -34,15 +34,15 @@ goal (a.DoubleBind y) = y
 goal (a.Read level counted y) = y
 goal action = 0
 
--- that is a position of the row of a node of a kind
+-- the action leads to a position in the row of a node of the kind
 abbrev pub lands : SyntaxKind → Action → Bool
 lands k action = is_at k (p.InRow (goal action))
 
--- this is done, and leads to a position of the row of a node of a kind where that is left of it
+-- an action leads to a position in the row of a node of the kind, with this rest of the row
 abbrev pub LeadsTo : SyntaxKind → Row → (ℕ → Action) → Action → Type 0
 LeadsTo k r to action = (action ≡ to (goal action)) × (remaining_at (goal action) ≡ r) × (is_at k (p.InRow (goal action)) ≡ true)
 
--- one test asks for another
+-- if the first test is true, so is the second
 abbrev pub asks : Bool → Bool → Bool
 asks true w = w
 asks false w = true
@@ -51,7 +51,7 @@ pub asked : (v w : Bool) → asks v w ≡ true → v ≡ true → w ≡ true
 asked true w h e = h
 asked false w h e = absurd (true_is_not_false (sym e))
 
--- of two tests one is passed
+-- a disjunction is true if its second test is
 pub or_true : (v : Bool) {w : Bool} → w ≡ true → (v || w) ≡ true
 or_true true e = refl
 or_true false e = e
@@ -61,7 +61,7 @@ abbrev pub is_any : {A : Type 0} → Option A → Bool
 is_any None = false
 is_any (Some x) = true
 
--- what kind of action is done
+-- the action consumes the next item; the tests after this one are for other kinds of actions
 abbrev pub is_take : Action → Bool
 is_take (a.Take y) = true
 is_take action = false
@@ -87,13 +87,13 @@ is_miss (a.Miss y) = true
 is_miss (a.MissWanted until y) = true
 is_miss action = is_read action
 
--- no entry of a pattern, and no error node, is closed without more
+-- a node of the kind closes without reporting anything and is no error node
 abbrev pub is_closed : SyntaxKind → Bool
 is_closed NODE_PAT_ENTRY = false
 is_closed NODE_ERROR = false
 is_closed k = true
 
--- the row of a node of a kind ends so; nothing closes the root's
+-- the action ends the row of a node of the kind; nothing ends the root's
 abbrev pub is_ending : SyntaxKind → Action → Bool
 is_ending k a.Close = is_closed k
 is_ending k a.ClosePattern = is_closed k
@@ -101,7 +101,7 @@ is_ending k a.CloseEntry = same_kind NODE_PAT_ENTRY k
 is_ending k a.CloseDoubleBind = same_kind NODE_ERROR k
 is_ending k action = same_kind NODE_ROOT k
 
--- the ends of patterns that have a name before them, and of the text
+-- the end of a pattern that has a bound name before it, or the end of the text
 abbrev pub is_bound : Row → Bool
 is_bound (BoundAlready · r) = true
 is_bound r = false
@@ -110,32 +110,32 @@ abbrev pub is_text_end : Row → Bool
 is_text_end (TextEnd · r) = true
 is_text_end r = false
 
--- no node but a name is first in what is left of a row
+-- the only node that may come next in the row is a name
 abbrev pub names_only : Row → Bool
 names_only r = list_all (λ k. if is_viable (after r k) then (if is_viable (row k) then same_kind k NODE_IDENT else true) else true) all_kinds
 
--- a token that a name begins with
+-- a token with which a name begins
 abbrev pub is_name : SyntaxKind → Bool
 is_name j = same_kind (leaf_kind_as NODE_IDENT j) TOKEN_IDENT
 
--- a node of a kind begins with the token that it is opened with
+-- no token with which a node of the kind begins is a name's
 abbrev pub is_opened : SyntaxKind → Bool
 is_opened k = list_all (λ j. if is_viable (after (row k) (leaf_kind_as k j)) then (if is_name j then false else true) else true) all_kinds
 
--- the kinds of nodes that are open above others
+-- the kinds of nodes that are inside others
 abbrev pub is_inner : SyntaxKind → Bool
 is_inner NODE_ROOT = false
 is_inner NODE_ERROR = false
 is_inner k = true
 
--- the kinds of nodes that are opened with a token, and those that begin with an item or a name, where no operand stands
+-- the kinds of nodes that begin with a token and are no operands; the next test is also for those that begin with a name
 abbrev pub opens_with_item : SyntaxKind → Bool
 opens_with_item k = list_any (λ j. same_kind j k) (NODE_STRING ∷ (NODE_DYNAMIC ∷ (NODE_INTERPOL ∷ (NODE_INHERIT ∷ (NODE_INHERIT_FROM ∷ (NODE_PAT_BIND ∷ []))))))
 
 abbrev pub begins_with_item : SyntaxKind → Bool
 begins_with_item k = opens_with_item k || (same_kind NODE_IDENT k || same_kind NODE_PAT_ENTRY k)
 
--- a node of a kind is begun, or is the next item
+-- the action begins a node of the kind, or makes it of the next item
 abbrev pub opens : SyntaxKind → Action → Bool
 opens k (a.Leaf NODE_IDENT y) = same_kind NODE_IDENT k
 opens k (a.Open j z y) = same_kind j k && (is_at j (p.InRow z) && (is_inner j && opens_with_item j))
@@ -143,14 +143,14 @@ opens k (a.OpenEmpty j z y) = same_kind j k && (is_at j (p.InRow z) && is_inner 
 opens k (a.Entry y) = same_kind NODE_PAT_ENTRY k
 opens k action = false
 
--- the row continues with a leaf, or a second name of a pattern begins, where a token is expected
+-- if the next item is expected, it becomes a leaf, or begins a second name of a pattern
 abbrev pub by_own : SyntaxKind → Row → Option SyntaxKind → Action → Bool
 by_own k r None action = true
 by_own k r (Some j) action =
     asks (is_viable (after r (leaf_kind_as k j))) (same_kind (leaf_kind_as k j) j && (is_take action && lands k action)) && asks (is_bound r)
     (is_double_bind action && lands k action)
 
--- where it is not, an operand stands, or the row ends, or a run of other items is read
+-- if it is not, an operand is read, or the row ends, or a run of other items is read
 abbrev pub by_item : SyntaxKind → Row → Option SyntaxKind → Action → Bool
 by_item k r None action = true
 by_item k r (Some j) action = asks (is_any (run_at r)) (is_run action && lands k action) && asks (is_text_end r) (is_extra action)
@@ -160,12 +160,12 @@ by_other k r next action =
     asks (is_any (level_at r blank) || is_viable (after r NODE_LITERAL))
     (is_read action && lands k action) && (asks (may_end r) (is_ending k action) && by_item k r next action)
 
--- at the end of the text what is missing is reported
+-- at the end of the text the missing part is reported
 abbrev pub by_end : SyntaxKind → Row → Option SyntaxKind → Action → Bool
 by_end k r None action = asks (is_there (missing r)) (is_miss action && lands k action)
 by_end k r (Some j) action = true
 
--- this alone may be done in the row of a node of a kind, except for nodes that are no operands
+-- no other action is possible in the row of a node of the kind, apart from reading a node that is no operand
 abbrev pub by_next : Bool → SyntaxKind → Row → Option SyntaxKind → Action → Bool
 by_next true = by_own
 by_next false = by_other
@@ -173,7 +173,7 @@ by_next false = by_other
 abbrev pub is_only : SyntaxKind → Row → Bool → Option SyntaxKind → Action → Bool
 is_only k r touch next action = by_end k r next action && by_next (expects_next r touch next) k r next action
 
--- a node of a kind may begin with the next item, if it begins with an item or a name
+-- a node of the kind may begin with the next item, if it begins with an item or a name
 abbrev pub is_first : SyntaxKind → Option SyntaxKind → Bool
 is_first k None = false
 is_first k (Some j) = is_viable (after (row k) (leaf_kind_as k j)) || (is_viable (after (row k) NODE_IDENT) && is_name j)
@@ -181,17 +181,17 @@ is_first k (Some j) = is_viable (after (row k) (leaf_kind_as k j)) || (is_viable
 abbrev pub may_begin : SyntaxKind → Option SyntaxKind → Bool
 may_begin k next = if begins_with_item k then is_first k next else true
 
--- two tests have one answer
+-- two tests give the same result
 abbrev pub is_same : Bool → Bool → Bool
 is_same true w = w
 is_same false w = if w then false else true
 
--- a node of a kind is read where it stands, in the row of another
+-- if a node of the kind comes next in the row of another, the action begins it
 abbrev pub by_node : SyntaxKind → Row → Bool → SyntaxKind → Option SyntaxKind → Action → Bool
 by_node q r touch k next action = asks (is_same (expects_next r touch next) (is_first_expected r k blank) && may_begin k next)
     (opens k action && lands q action)
 
--- so it is before each item, and at the end of the text
+-- a test passes for each next item, and for the end of the text
 abbrev all_next : (Option SyntaxKind → Bool) → Bool
 all_next test = test None && list_all (λ k. test (Some k)) all_kinds
 
@@ -204,7 +204,7 @@ by_nodes i touch k =
     asks (is_viable (after (remaining_at i) k)) (asks (is_viable (row k))
     (all_next (λ next. by_node (kind_at i) (remaining_at i) touch k next (action_at_slot i next touch))))
 
--- all of it at an index of the table
+-- all of these tests at an index of the table
 abbrev at_index : Bool → ℕ → Bool
 at_index touch i =
     all_next (λ next. is_only (kind_at i) (remaining_at i) touch next (action_at_slot i next touch))
@@ -220,13 +220,13 @@ is_index : (touch : Bool) (i : ℕ) → IsIndex touch i
 is_index true = each_index (IsIndex true) (assumption) (λ i e d. past_end true i d)
 is_index false = each_index (IsIndex false) (assumption) (λ i e d. past_end false i d)
 
--- what is done in the row of a node of a kind where this is left of it: it is allowed, and this alone is
+-- at this rest of the row of a node of the kind, the action is allowed, and is the only one
 pub record IsDone (k : SyntaxKind) (r : Row) (touch : Bool) (next : Option SyntaxKind) (action : Action) : Type 0 where
   pub action_is_at : IsActionAt r touch next action
   pub only : is_only k r touch next action ≡ true
   pub nodes : (j : SyntaxKind) → level_at r blank ≡ None → is_viable (after r j) ≡ true → is_viable (row j) ≡ true → by_node k r touch j next action ≡ true
 
--- so it is at an index
+-- this holds at each index
 remaining_done : (i : ℕ) (touch : Bool) (next : Option SyntaxKind) → is_waiting (remaining_at i) ≡ true
     → IsDone (kind_at i) (remaining_at i) touch next (action_at_slot i next touch)
 remaining_done i touch next h =
@@ -241,7 +241,7 @@ remaining_done i touch next h =
           (asked (is_viable (row j)) _ (asked (is_viable (after (remaining_at i) j)) _ nodes l) o) next;
     }
 
--- so at each position of a row
+-- this holds at each position of a row
 pub done_at : (k : SyntaxKind) (x : Position) (touch : Bool) (next : Option SyntaxKind) → is_at k x ≡ true
     → IsDone k (rest_at x) touch next (action_at x next touch)
 done_at k (p.InRow i) touch next h =
@@ -256,7 +256,7 @@ done_at k (p.Right level) touch next h =
     by None = refl
     by (Some k) = refl
 
--- so it is where the next item is expected, or is not
+-- this holds whether the next item is expected or not
 pub done_as : {k : SyntaxKind} {r : Row} {touch : Bool} {next : Option SyntaxKind} {action : Action} (own : Bool) → IsDone k r touch next action
     → expects_next r touch next ≡ own → by_next own k r next action ≡ true
 done_as {k} {r} {touch} {next} {action} own w e = ap (λ own. by_next own k r next action) (sym e) ∙ (and_parts (by_end k r next action) _ w.only).1
@@ -272,7 +272,7 @@ pub other_item : {k : SyntaxKind} {r : Row} {touch : Bool} {next : Option Syntax
     → by_item k r next action ≡ true
 other_item {k} {r} {action = action} w o = (and_parts (asks (may_end r) (is_ending k action)) _ (other_end w o)).1
 
--- what is left at such a position begins with no child that is there whenever the node is
+-- the rest of a row at such a position does not begin with a child that its node always has
 waiting_remaining : (r : Row) → is_waiting r ≡ true → is_remaining r ≡ true
 waiting_remaining never h = refl
 waiting_remaining _ h = h
@@ -286,7 +286,7 @@ remaining_at_position k (p.InRow i) h = waiting_remaining (remaining_at i) (and_
 remaining_at_position k (p.AfterOperand min_bp max_bp) h = absurd (true_is_not_false (sym h))
 remaining_at_position k (p.Right level) h = refl
 
--- the next item is expected at a position as a reading says
+-- the row expects the next item at a position exactly if a reading does
 pub next_is : (k : SyntaxKind) (x : Position) (n : ℕ) (ts : List Token) (own : Bool) → is_at k x ≡ true → IsExpected (rest_at x) n ts own
     → expects_next (rest_at x) (touches n ts) (head_kind ts) ≡ own
 next_is k x n ts own h o = sym (expects_at (rest_at x) n ts) ∙ as_expected (rest_at x) (remaining_at_position k x h) n ts own o

@@ -5,21 +5,21 @@ use Rattle.rnix_grammar.specs.AnnotatedForest.{Token, Note, AnnotatedForest, bla
 use Rattle.{rnix_grammar.specs.{Layout.{items, tail_of}, Reads.ReadsRoot}, rnix_proof_lemmas.{specs.{Machine.{Machine, initial_machine, step, Runs, rest as here}}}}
 use Rattle.{rnix_proof_lemmas.{specs.{Machine.{then as further}}}, rnix_proof_uniqueness.proofs.AllReads.{ended_with, ended_once, reads_runs}}
 
--- a forest without its items: each leaf takes the next one
+-- a forest without its items: each leaf stands for the next one
 pub data Shape : Type 0 where
   done : Shape
   item : Shape → Shape
   node : SyntaxKind → Shape → Shape → Shape
   wrong : Note → Shape → Shape → Shape
 
--- the items after those of a forest
+-- the items that remain after those of the forest
 abbrev pub unfilled : Shape → List Token → List Token
 unfilled done ts = ts
 unfilled (item f) ts = unfilled f (tail_of ts)
 unfilled (node k c f) ts = unfilled f (unfilled c ts)
 unfilled (wrong n c f) ts = unfilled f (unfilled c ts)
 
--- the children of a node, with its items
+-- the children of a node, filled with its items
 abbrev pub filled : SyntaxKind → Shape → List Token → AnnotatedForest
 filled p done ts = blank
 filled p (item f) [] = blank
@@ -27,7 +27,7 @@ filled p (item f) (t ∷ ts) = token (leaf_kind p t) t (filled p f ts)
 filled p (node k c f) ts = branch k (filled k c ts) (filled p f (unfilled c ts))
 filled p (wrong n c f) ts = fault n (filled NODE_ERROR c ts) (filled p f (unfilled c ts))
 
--- so many steps of a machine
+-- `n` steps of a machine
 abbrev pub steps : ℕ → Machine → Machine
 steps zero m = m
 steps (suc n) m = steps n (step false m)
@@ -36,11 +36,11 @@ steps (suc n) m = steps n (step false m)
 abbrev pub Reading : Type 0
 Reading = Shape × List Fault
 
--- the trees of a reading, with their items
+-- the trees of a reading, filled with the items
 abbrev pub trees_in : Reading → List Token → AnnotatedForest
 trees_in r ts = filled NODE_ROOT r.0 ts
 
--- all items are read so
+-- the machine that has read all items, with these trees and errors
 abbrev pub end_with : List Token → Reading → Machine
 end_with ts r = ended_with (trees_in r ts) (end_from 0 ts) r.1
 
@@ -57,7 +57,7 @@ pub record Case : Type 0 where
 abbrev pub items_of : Case → List Token
 items_of c = items (placed_from 0 (tokens_of c.text))
 
--- it is so
+-- each reading of the text's items is this one
 abbrev pub Holds : Case → Type 0
 Holds c = IsReadAs (items_of c) c.right
 
@@ -65,7 +65,7 @@ steps_run : (n : ℕ) (m : Machine) → Runs false m (steps n m)
 steps_run zero m = here
 steps_run (suc n) m = further (steps_run n (step false m))
 
--- where the steps end with some trees and errors, each reading of these items has them
+-- if the steps end with some trees and errors, each reading of these items has the same
 same : (ts : List Token) (f g : AnnotatedForest) (n : ℕ) (es fs : List Fault)
     → Runs false (initial_machine ts) (ended_with f n es) → tokens_in g ≡ ts → ReadsRoot g fs → (f ≡ g) × (es ≡ fs)
 same ts f g n es fs r e w =
@@ -74,11 +74,11 @@ same ts f g n es fs r e w =
     refl in
     (sym h.0, sym h.1)
 
--- the steps make its reading of a text, of which each of the examples needs fewer
+-- the steps give this reading of the text; none of the examples needs more steps than this number
 abbrev pub IsMade : Case → Type 0
 IsMade c = steps 60 (initial_machine (items_of c)) ≡ end_with (items_of c) c.right
 
--- so the text is read so
+-- if the steps give this reading of a text, it is the only one
 pub holds : (c : Case) → IsMade c → Holds c
 holds c e f faults h w =
     same (items_of c) (trees_in c.right (items_of c)) f (end_from 0 (items_of c)) c.right.1 faults

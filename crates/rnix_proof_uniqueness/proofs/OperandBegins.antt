@@ -1,4 +1,4 @@
--- What the first items of an operand begin.
+-- The action at the first items of an operand, by the kind of its first tree.
 use Rattle.std.proofs.{lemmas.Bool.and_parts, Common.{◌≡◌, ◌++◌, subst, append_assoc, arith, ℕ, ◌≤◌, Bool, true, false, List, [], ◌∷◌, Some, refl, ap, sym}}
 use Rattle.{std.proofs.Common.{◌∙◌, ◌&&◌, if◌then◌else◌, nat_le, Option}, rnix_kinds.specs.declared.kinds.SyntaxKind.SyntaxKind}
 use Rattle.rnix_kinds.specs.declared.kinds.SyntaxKind.TheVariants.{TOKEN_IDENT, TOKEN_INVERT, TOKEN_L_BRACE}
@@ -18,7 +18,7 @@ use Rattle.rnix_grammar.specs.declared.position.Position.TheVariants as p
 use Rattle.rnix_grammar.specs.declared.action.Action.TheVariants as a
 use Rattle.rnix_grammar.specs.declared.operand_start.OperandStart.TheVariants as b
 
--- an item continues a tree, as far as the tree's level
+-- if an item continues a tree, the action does so, where the tree's level allows it
 pub goes : (level max_bp : ℕ) (i : SyntaxKind) (x : AnnotatedForest) → FollowedTo max_bp x → follows i x ≡ true → level ≤ binding_power i
     → more_action level max_bp (Some i) ≡ continue_action i
 goes level max_bp i x b f l =
@@ -30,7 +30,7 @@ goes level max_bp i x b f l =
     all_three : (u v w : Bool) → u ≡ true → v ≡ true → w ≡ true → (u && (v && w)) ≡ true
     all_three u v w e f g = ap (λ z. z && (v && w)) e ∙ ap (λ z. z && w) f ∙ g
 
--- an operand ends if no item continues it
+-- the operand ends if no item continues it
 pub settles : (level max_bp : ℕ) (x : AnnotatedForest) (us : List Token) → FollowedTo max_bp x → is_continued level x us ≡ false
     → more_action level max_bp (head_kind us) ≡ a.EndOperand
 settles level max_bp x [] b h = refl
@@ -44,12 +44,12 @@ settles level max_bp x (t ∷ ts) b h = by (may_continue level max_bp t.kind) re
         let f : follows t.kind x ≡ true = (b t.kind).0 (at_most 1 (binding_power t.kind) u.0) (at_most (binding_power t.kind) max_bp v.1) in
         absurd (true_is_not_false (sym (ap (λ z. z && nat_le level (binding_power t.kind)) f ∙ v.0) ∙ h))
 
--- two trees whose first trees are of one kind begin alike
+-- an operand begins as another one does whose first tree has the same kind
 pub begun_same : (level : ℕ) (x y : AnnotatedForest) (ts : List Token) → first_tree x ≡ first_tree y → BeginsAs level x ts → BeginsAs level y ts
 begun_same level x y [] e h = h
 begun_same level x y (t ∷ ts) e h = h ∙ e
 
--- a tree that an item continues is the first of another that is read, if the steps read the rest of that
+-- a tree that an item continues is the first tree of another node; the steps read that node if they read the rest of it
 pub continued : (zs xs : List Token) (x z : AnnotatedForest) (i : SyntaxKind) (action : Action) (max_bp d n : ℕ) (us : List Token) (es ds : List Fault)
     → follows i x ≡ true
     → head_kind (xs ++ us) ≡ Some i → continue_action i ≡ action → first_tree z ≡ first_tree x → row_level z ≤ binding_power i → FollowedTo max_bp z
@@ -94,7 +94,7 @@ max_bp_at NODE_UNARY_OP TOKEN_INVERT = 8
 max_bp_at NODE_UNARY_OP i = 13
 max_bp_at k i = if is_atom k then 16 else 0
 
--- what an item of a kind begins
+-- an item of the kind begins an operand so
 abbrev pub BegunBy : SyntaxKind → OperandStart → Type 0
 BegunBy i (b.Leaf k) = (begins_with_item k ≡ true) × (after (row_of_kind k) (leaf_kind_as k i) ≡ done) × (is_atom k ≡ true)
 BegunBy i (b.Node k z max_bp) = (begins_with_item k ≡ true) × (after (row_of_kind k) (leaf_kind_as k i) ≡ remaining_at z) × (is_at k (p.InRow z) ≡ true)
@@ -104,17 +104,17 @@ BegunBy i b.BoundLambda = i ≡ TOKEN_IDENT
 BegunBy i b.PatternLambda = i ≡ TOKEN_L_BRACE
 BegunBy i how = Unit {0}
 
--- so it is for each beginning
+-- this holds for each beginning in the table
 begins_by : (level : ℕ) (i : SyntaxKind) (text : List ℕ) (second third : Option SyntaxKind) → BegunBy i (operand_start_of level i text second third)
 begins_by = each_first_tree (λ i second k. BegunBy i (operand_start_for k i)) (λ second. assumption)
 
--- the beginning of some items, by the kind of the first tree
+-- the action at the first items gives the kind of the first tree
 pub begins_so : (k : SyntaxKind) (level : ℕ) (t : Token) (ts : List Token) → first_kind level t.kind t.text (head_kind ts) (second_kind ts) ≡ k
     → (operand_start_of level t.kind t.text (head_kind ts) (second_kind ts) ≡ operand_start_for k t.kind) × BegunBy t.kind (operand_start_for k t.kind)
 begins_so k level t ts e =
     let s = ap (λ j. operand_start_for j t.kind) e in (s, subst (BegunBy t.kind) s (begins_by level t.kind t.text (head_kind ts) (second_kind ts)))
 
--- how an expression that begins with an item does so: it is the item, or a node that continues at a position
+-- how an expression begins with an item: it is the item alone, or a node that continues at a position
 pub data BegunByItem (k i : SyntaxKind) (how : OperandStart) : Type 0 where
   led_leaf : how ≡ b.Leaf k → after (row_of_kind k) (leaf_kind_as k i) ≡ done → is_atom k ≡ true → BegunByItem k i how
   led_node : (z max_bp : ℕ) → how ≡ b.Node k z max_bp → after (row_of_kind k) (leaf_kind_as k i) ≡ remaining_at z → is_at k (p.InRow z) ≡ true
@@ -125,7 +125,7 @@ first_led : (k : SyntaxKind) (c f : AnnotatedForest) → begins_with_item k ≡ 
 first_led NODE_BIN_OP c f h = absurd (true_is_not_false (sym h))
 first_led _ c f h = cc
 
--- each such expression begins so, by its beginning
+-- each expression that begins with an item begins in one of these ways, by the action
 led_by : (k i : SyntaxKind) (how : OperandStart) → begins_with_item k ≡ true → kind_of how ≡ k → BegunBy i how → BegunByItem k i how
 led_by k i (b.Leaf j) h e w =
     let v = subst (λ (z : SyntaxKind). BegunBy i (b.Leaf z)) e w in led_leaf (ap b.Leaf e) v.1 v.2
@@ -133,7 +133,7 @@ led_by k i (b.Node j z max_bp) h e w =
     let v = subst (λ (x : SyntaxKind). BegunBy i (b.Node x z max_bp)) e w in led_node z max_bp (ap (λ x. b.Node x z max_bp) e) v.1 v.2 v.3
 led_by k i _ h e w = absurd (true_is_not_false (sym h ∙ ap begins_with_item (sym e)))
 
--- each such expression begins so
+-- the same for the items of an operand
 pub begins_led : (k : SyntaxKind) → begins_with_item k ≡ true → (level : ℕ) (t : Token) (ts : List Token) (c : AnnotatedForest)
     → first_kind level t.kind t.text (head_kind ts) (second_kind ts) ≡ first_tree (one_branch k c)
     → BegunByItem k t.kind (operand_start_of level t.kind t.text (head_kind ts) (second_kind ts))
@@ -146,12 +146,12 @@ abbrev is_unary : SyntaxKind → Bool
 is_unary NODE_UNARY_OP = true
 is_unary k = false
 
--- the level of such an expression that is no atom and has no prefix operator
+-- an expression that begins with an item and is neither an atom nor a prefix operation is at level 0
 keyword_level : (k : SyntaxKind) (c : AnnotatedForest) → begins_with_item k ≡ true → is_atom k ≡ false → is_unary k ≡ false → level_of k c ≡ 0
 keyword_level NODE_BIN_OP c h a u = absurd (true_is_not_false (sym h))
 keyword_level _ c h a u = cc
 
--- what continues it
+-- what may follow such an expression, apart from prefix operations
 followed_plain : (k : SyntaxKind) (c : AnnotatedForest) → begins_with_item k ≡ true → is_unary k ≡ false
     → FollowedTo (if is_atom k then 16 else 0) (one_branch k c)
 followed_plain k c h u = by (is_atom k) refl
@@ -160,7 +160,7 @@ followed_plain k c h u = by (is_atom k) refl
     by true a = followed_atom (one_branch k c) (atom_is_selection_level k c a) a
     by false a = followed_keyword (one_branch k c) (keyword_level k c h a u) a
 
--- what continues such a tree
+-- what may follow an expression that begins with an item
 pub followed_item_begun : (k i : SyntaxKind) (t : Token) (f : AnnotatedForest) → begins_with_item k ≡ true
     → FollowedTo (max_bp_at k i) (one_branch k (token (leaf_kind_as k i) t f))
 followed_item_begun NODE_UNARY_OP TOKEN_INVERT t f h = followed_inverted (one_branch NODE_UNARY_OP (token TOKEN_INVERT t f)) refl refl

@@ -1,4 +1,4 @@
--- Operators, selections and tests for attributes are read as operands, if smaller forests and trees are read.
+-- Operations, selections and tests for attributes are read as operands, if smaller forests and trees are.
 use Rattle.std.proofs.Common.{◌≡◌, ℕ, Bool, true, false, List, [], ◌∷◌, ◌++◌, Some, refl, ap, sym, ◌∙◌, subst, append-nil, arith}
 use Rattle.rnix_kinds.{proofs.AllKinds.implied, specs.declared.kinds.SyntaxKind.{SyntaxKind, TheVariants.{TOKEN_ADD, TOKEN_DOT, TOKEN_QUESTION, NODE_BIN_OP}}}
 use Rattle.rnix_kinds.specs.declared.kinds.SyntaxKind.TheVariants.{NODE_HAS_ATTR, NODE_LITERAL, NODE_SELECT}
@@ -18,13 +18,13 @@ use Rattle.rnix_proof_uniqueness.proofs.FunctionRows.{stray_reads}
 use Rattle.rnix_grammar.specs.declared.position.Position.TheVariants as p
 use Rattle.rnix_grammar.specs.declared.action.Action.TheVariants as a
 
--- what is known of a kind whose row begins with a tree
+-- the row of a node of the kind begins with a tree, of a kind that passes the test
 pub record BeginsWithTree (k : SyntaxKind) (q : Row) (test : SyntaxKind → Bool) : Type 0 where
   pub goes : (j : SyntaxKind) → after (row_of_kind k) j ≡ row_if (test j) q
   pub fitting : (j : SyntaxKind) → test j ≡ true → is_expression j ≡ true
   pub deep : (d : ℕ) → deeper (row_of_kind k) d ≡ d
 
--- a node whose first tree is read is read, if no lone token is first and the rest is read after the tree
+-- the steps read a node that begins with a tree, if they read the rest of its row after that tree
 pub leading : {m : ℕ} {k : SyntaxKind} {d n : ℕ} {q : Row} {us : List Token} {test : SyntaxKind → Bool} {c : AnnotatedForest} {es : List Fault} → Trees m
     → BeginsWithTree k q test
     → ((j : SyntaxKind) (t : Token) (f : AnnotatedForest) (fs : List Fault) → Complete m k d t.end q (one_token j t) us f fs → ⊥)
@@ -52,7 +52,7 @@ leading {m} {k} {d} {n} {q} {us} {test} trees w dead more r = by r
         (sym (ap (λ v. ds ++ v) (unreported j blank c fit) ∙ append-nil ds))
         (more (tokens_in c) (one_branch j c) f ds es a_node tree (complete_to (behind j l) refl r'))
 
--- a node whose row begins with a tree and an item, which leads to a position
+-- the row of a node of the kind begins with a tree and an item, and then continues at a position
 record Joins (k : SyntaxKind) (q : Row) (test : SyntaxKind → Bool) (z : SyntaxKind → Position) (max_bp : SyntaxKind → ℕ) : Type 0 where
   begins : BeginsWithTree k q test
   known : (is_error k ≡ false) × (is_inner k ≡ true) × (is_closed k ≡ true) × (has_no_node_next q ≡ true) × (is_firm q ≡ true)
@@ -66,7 +66,7 @@ record Joins (k : SyntaxKind) (q : Row) (test : SyntaxKind → Bool) (z : Syntax
       → FollowedTo (max_bp i) (one_branch k x)
   first : (x : AnnotatedForest) → first_tree (one_branch k x) ≡ first_tree x
 
--- a tree, an item that continues it, and the rest of the node's row
+-- the steps read a tree, the item that continues it, and the rest of the node's row
 joined : {k : SyntaxKind} {q : Row} {test : SyntaxKind → Bool} {z : SyntaxKind → Position} {max_bp : SyntaxKind
     → ℕ} (w : Joins k q test z max_bp) (zs : List Token) (x : AnnotatedForest) (t : Token) (f : AnnotatedForest)
     (d n : ℕ) (us : List Token) (es ds : List Fault) → IsSingle x → is_viable (after q t.kind) ≡ true → ReadsTree d n zs x (t ∷ (tokens_in f ++ us)) es
@@ -89,7 +89,7 @@ joined {k = k} {z = z} {max_bp = max_bp} w zs x t f d n us es ds one is_viable t
     tight : row_level v ≡ binding_power t.kind
     tight = w.level t.kind x t f one is_viable
 
--- such a node is read
+-- so the steps read such a node
 joined_reads : (m : ℕ) → AllRows m → Trees m → (k : SyntaxKind) (q : Row) (test : SyntaxKind → Bool) (z : SyntaxKind → Position) (max_bp : SyntaxKind
     → ℕ) → Joins k q test z max_bp → KindReads m k
 joined_reads m rows trees k q test z max_bp w d n us c es r = leading trees w.begins lone more r
@@ -115,12 +115,12 @@ joined_reads m rows trees k q test z max_bp w d n us c es r = leading trees w.be
         (joined w zs x t v.more d n us es ds one alive (subst (λ (g : AnnotatedForest). ReadsTree d n zs x (tokens_in g ++ us) es) is tree)
         (ap (λ i. follows i x) (sym e) ∙ w.follow (leaf_kind k t) x v.followed) (read_on rows (z t.kind) (w.in_row_of t.kind) rest))
 
--- how a binary operator continues
+-- a binary operator continues an operand by making it the first child of a NODE_BIN_OP
 follow_infix : (i : SyntaxKind) → is_infix i ≡ true → continue_action i ≡ a.Wrap NODE_BIN_OP (p.Right (right_of i)) (max_bp_of i)
 follow_infix TOKEN_ADD h = refl
 follow_infix _ h = cc
 
--- a binary operator is read
+-- the steps read a binary operation
 pub binary_reads : (m : ℕ) → AllRows m → Trees m → KindReads m NODE_BIN_OP
 binary_reads m rows trees =
     joined_reads m rows trees NODE_BIN_OP (Binary · done) is_operand (λ i. p.Right (right_of i)) max_bp_of (record {
@@ -138,7 +138,7 @@ binary_reads m rows trees =
     operates : (i : SyntaxKind) → is_viable (after (Binary · done) i) ≡ true → is_infix i ≡ true
     operates i l = viable_only (is_infix i) (rest_at (p.Right (right_of i))) l
 
--- so is a test for an attribute
+-- the steps read a test for an attribute
 pub question_reads : (m : ℕ) → AllRows m → Trees m → KindReads m NODE_HAS_ATTR
 question_reads m rows trees =
     joined_reads m rows trees NODE_HAS_ATTR (Suffix TOKEN_QUESTION · remaining_at HAS_ATTR) is_questioned (λ i. p.InRow HAS_ATTR) (λ i. 13) (record {
@@ -156,7 +156,7 @@ question_reads m rows trees =
     question : (i : SyntaxKind) → is_viable (after (Suffix TOKEN_QUESTION · remaining_at HAS_ATTR) i) ≡ true → i ≡ TOKEN_QUESTION
     question i l = only (λ j. is_viable (after (Suffix TOKEN_QUESTION · remaining_at HAS_ATTR) j)) TOKEN_QUESTION refl i l
 
--- so is a selection
+-- the steps read a selection
 pub selected_reads : (m : ℕ) → AllRows m → Trees m → KindReads m NODE_SELECT
 selected_reads m rows trees =
     joined_reads m rows trees NODE_SELECT (Suffix TOKEN_DOT · remaining_at SELECT) is_atom (λ i. p.InRow SELECT) (λ i. 15) (record {

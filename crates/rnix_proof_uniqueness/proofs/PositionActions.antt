@@ -1,4 +1,4 @@
--- The reader's action at a position of a row, by what a reading has there.
+-- The reader's action at a position of a row, by what comes next in a reading.
 use Rattle.std.proofs.Common.{◌≡◌, ◌⊎◌, inl, inr, ℕ, ◌<◌, Bool, true, false, ◌&&◌, ◌||◌, List, [], ◌∷◌, ◌++◌, Option, Some, None, refl, ap, sym, ◌∙◌, subst}
 use Rattle.{std.proofs.{Common.{arith, if◌then◌else◌, nat_le}, lemmas.Bool.{and_parts, Decides.nat_tests}}, rnix_kinds.proofs.AllKinds.implied}
 use Rattle.rnix_kinds.specs.declared.kinds.SyntaxKind.{SyntaxKind, TheVariants.{NODE_IDENT, NODE_LITERAL, NODE_PAT_ENTRY, TOKEN_AT, TOKEN_IDENT}}
@@ -37,7 +37,7 @@ takes_at {k} {j} {r} {touch} {action} w o l =
 two_same : {A B : Type 0} (x y : A) (v w : B) {z : Option (A × B)} → z ≡ Some (x, v) → z ≡ Some (y, w) → (x ≡ y) × (v ≡ w)
 two_same x y v w h e = let i = some_same (x, v) (y, w) (sym h ∙ e) in (ap (λ q. q.0) i, ap (λ q. q.1) i)
 
--- where a run is allowed, an item that is not expected begins one
+-- if a run is allowed, an item that is not expected begins one
 runs_by : (k j : SyntaxKind) (r s : Row) (touch : Bool) (until : ExpectedSet) (action : Action) → IsActionAt r touch (Some j) action → is_run action ≡ true
     → lands k action ≡ true
     → run_at r ≡ Some (wanted_kinds until, s) → LeadsTo k s (a.Run until) action
@@ -57,7 +57,7 @@ runs_at {k} {j} {r} {s} {touch} {action} until w o e =
     let v = and_parts (is_run action) (lands k action) t in
     runs_by k j r s touch until action w.action_is_at v.0 v.1 e
 
--- an operand after which nothing is left
+-- within the limit, an operand at the end of the text is reported as missing
 reads_none : (level : ℕ) (z : Position) (h : Head) (d n : ℕ) (b : AnnotatedForest) (fs : List Frame) (gs : List Fault) (w : Bool) → nat_le depth_limit d ≡ w
     → d < depth_limit
     → (if w then limited false (opened h z d b) fs [] n gs else machine (opened h z d b ∷ fs) [] n (gs ++ unexpected_eof ∷ [])) ≡ machine (opened h z d b ∷ fs)
@@ -66,7 +66,7 @@ reads_none : (level : ℕ) (z : Position) (h : Head) (d n : ℕ) (b : AnnotatedF
 reads_none level z h d n b fs gs true e l = absurd (grind (arith, nat_tests, e, l))
 reads_none level z h d n b fs gs false e l = refl
 
--- where the text ends at a position, the missing part is reported, and this is left of the row
+-- at the end of the text, the action reports the missing part, and this rest of the row is left
 pub record Misses (k : SyntaxKind) (r : Row) (d : ℕ) (e : Fault) (action : Action) : Type 0 where
   pub rest : remaining_at (goal action) ≡ r
   pub here : is_at k (p.InRow (goal action)) ≡ true
@@ -102,14 +102,14 @@ misses_at {k} {r} {s} {touch} {d} {e} {action} w m room =
     let v = and_parts (is_miss action) (lands k action) t in
     misses_by k r s touch d e action w.action_is_at v.0 v.1 m room
 
--- a row ends where it may, if the next item is not expected
+-- the row ends where it may, if the next item is not expected
 pub ends_at : (k : SyntaxKind) (x : Position) (n : ℕ) (ts : List Token) → is_at k x ≡ true → IsOver (rest_at x) n ts
     → is_ending k (action_at x (head_kind ts) (touches n ts)) ≡ true
 ends_at k x n ts h o =
     asked (may_end (rest_at x)) _ (and_parts (asks (may_end (rest_at x)) _) _
     (other_end (done_at k x (touches n ts) (head_kind ts) h) (next_is k x n ts false h o.1))).0 o.0
 
--- items after the end of the root's expression
+-- items after the root's expression become one error node
 pub extra_at : {k j : SyntaxKind} {r : Row} {touch : Bool} {action : Action} → IsDone k r touch (Some j) action → expects_next r touch (Some j) ≡ false
     → r ≡ TextEnd · done
     → action ≡ a.Extra
@@ -119,7 +119,7 @@ extra_at {r = r} {action = action} w o e = by action (asked (is_text_end r) _ (a
     by a.Extra h = refl
     by _ h = absurd (true_is_not_false (sym h))
 
--- a second name of a pattern
+-- a second name of a pattern begins
 double_bind_by : (k : SyntaxKind) (r : Row) (touch : Bool) (action : Action) → IsActionAt r touch (Some TOKEN_AT) action → is_double_bind action ≡ true
     → lands k action ≡ true → LeadsTo k done a.DoubleBind action
 double_bind_by k r touch (a.DoubleBind y) w t l = (refl, w.2, l)
@@ -133,7 +133,7 @@ double_bind_at {k} {r} {touch} {action} w e =
     (ap is_bound e)) in
     double_bind_by k r touch action w.action_is_at v.0 v.1
 
--- an operand of a level is read where this is left of a row, and that is left after it
+-- the action reads an operand of a level at this rest of a row, and the other rest is left after it
 pub record Operands (k : SyntaxKind) (r s : Row) (action : Action) : Type 0 where
   pub level : ℕ
   pub is : level_at r blank ≡ Some level
@@ -146,7 +146,7 @@ reads_by k r touch None (a.Read level counted y) w t l = record { level = level;
 reads_by k r touch (Some j) (a.Read level counted y) w t l = record { level = level; is = w.0; act = (ap (λ c. a.Read level c y) (sym w.1), sym w.3, l) }
 reads_by k r touch _ _ w t l = absurd (true_is_not_false (sym t))
 
--- so it is where operands or error nodes are allowed, and the next item is not expected
+-- this holds where operands or error nodes are allowed and the next item is not expected
 pub reads_at : {k : SyntaxKind} {r : Row} {touch : Bool} {next : Option SyntaxKind} {action : Action} → IsDone k r touch next action
     → expects_next r touch next ≡ false
     → (is_any (level_at r blank) || is_viable (after r NODE_LITERAL)) ≡ true → Operands k r (after r NODE_LITERAL) action
@@ -155,12 +155,12 @@ reads_at {k} {r} {touch} {next} {action} w o e =
     let v = and_parts (is_read action) (lands k action) (asked stands _ (and_parts (asks stands _) _ (done_as false w o)).0 e) in
     reads_by k r touch next action w.action_is_at v.0 v.1
 
--- what holds of the next item, if there is one
+-- a statement about the next item, if there is one
 abbrev pub IfNext : Option SyntaxKind → (SyntaxKind → Type 0) → Type 0
 IfNext None P = Unit {0}
 IfNext (Some j) P = P j
 
--- how a node that is not an operand begins, by its kind, where this is left after it of the row of another
+-- how a node of the kind that is not an operand begins in the row of another, with this rest left after it
 pub data IsNode (k q : SyntaxKind) (r : Row) (next : Option SyntaxKind) (action : Action) : Type 0 where
   by_open_empty : (z : ℕ) → (is_at k (p.InRow z) ≡ true) × (is_inner k ≡ true) → row k ≡ remaining_at z → LeadsTo q r (a.OpenEmpty k z) action
       → IsNode k q r next action
@@ -200,7 +200,7 @@ no_token closer k h l = by (same_kind closer k) refl
         ∙ not_if (is_token k) (implied (λ j. is_viable (row j)) (λ j. if is_token j then false else true) refl k l)))
     by false i = i
 
--- what is allowed where operands are fits their level
+-- a node that is allowed where operands are fits their level
 operand_fits : (r : Row) (n : ℕ) (k : SyntaxKind) → is_remaining r ≡ true → level_at r blank ≡ Some n → is_viable (row k) ≡ true → is_viable (after r k) ≡ true
     → fits n k ≡ true
 operand_fits (Operand m counted · r) n k i e h l = ap (λ m. fits m k) (sym (some_same m n e)) ∙ viable_only (fits m k) r l
@@ -210,19 +210,19 @@ operand_fits (Many m closer · r) n k i e h l =
 operand_fits (Argument · r) n k i e h l = absurd (cc)
 operand_fits _ n k i e h l = absurd (cc)
 
--- equal tests have equal results
+-- equal tests pass the test for equality
 same_answer : (v w : Bool) → v ≡ w → is_same v w ≡ true
 same_answer true w e = sym e
 same_answer false true e = absurd (true_is_not_false (sym e))
 same_answer false false e = refl
 
--- how a node at a position is read: as an operand, or by its kind
+-- the action reads the node as an operand, or begins it by its kind
 abbrev pub NodeRead : SyntaxKind → Position → Option SyntaxKind → SyntaxKind → Action → Type 0
 NodeRead q x next k action =
     ((w : Operands q (rest_at x) (after (rest_at x) k) action) × (fits w.level k ≡ true)) ⊎
     (HasNoOperand (rest_at x) × IsNode k q (after (rest_at x) k) next action)
 
--- a node at a position is read in one of these ways
+-- the action at a position where a node comes next reads it in one of these ways
 pub node_at : {q : SyntaxKind} (x : Position) (n : ℕ) (ts : List Token) (k : SyntaxKind) (c : AnnotatedForest) → is_at q x ≡ true → is_viable (row k) ≡ true
     → is_viable (after (rest_at x) k) ≡ true → may_begin k (head_kind ts) ≡ true → IsExpected (rest_at x) n ts (is_first_expected (rest_at x) k c)
     → NodeRead q x (head_kind ts) k (action_at x (head_kind ts) (touches n ts))

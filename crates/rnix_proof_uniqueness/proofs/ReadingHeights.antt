@@ -1,4 +1,4 @@
--- The height of a reading, and how a reading continues where every such node has the next child.
+-- The height of a reading, and how a reading continues at a child that its node always has.
 use Rattle.std.proofs.Common.{◌≡◌, ℕ, suc, ◌+◌, ◌<◌, Bool, true, false, List, [], ◌∷◌, ◌++◌, Some, None, refl, ap, sym, ◌∙◌, subst, arith, ◌⊎◌, inl, inr, ◌||◌}
 use Rattle.{std.{proofs.{Common.{◌&&◌, if◌then◌else◌}, lemmas.Bool.and_parts}, specs.List.list_all}, rnix_kinds.proofs.AllKinds.{all_kinds, implied}}
 use Rattle.{rnix_kinds.specs.declared.kinds.SyntaxKind.{SyntaxKind, TheVariants.{NODE_LITERAL, TOKEN_IDENT, NODE_IDENT}}, rnix_green.specs.Equality.same_kind}
@@ -28,7 +28,7 @@ pub record IsLower (m : ℕ) (p : SyntaxKind) (d n : ℕ) (q s : Row) (b : Annot
   pub reads : Reads p d n q s b us f es
   pub short : height reads < m
 
--- the steps read each forest from a position if its reading is lower than m
+-- the steps follow each reading of a forest from a position that is lower than `m`
 abbrev pub AllRows : ℕ → Type 0
 AllRows m =
     (k : SyntaxKind) (d n : ℕ) (x : Position) (s : Row) (b : AnnotatedForest) (us : List Token) (f : AnnotatedForest) (es : List Fault) → is_at k x ≡ true
@@ -40,13 +40,13 @@ pub record Complete (m : ℕ) (p : SyntaxKind) (d n : ℕ) (q : Row) (b : Annota
   pub part : IsLower m p d n q last b us f es
   pub over : IsOver last (end_from n (tokens_in f)) us
 
--- the steps read each expression whose reading is lower than m
+-- the steps follow each reading of an expression that is lower than `m`
 abbrev pub Trees : ℕ → Type 0
 Trees m =
     (k : SyntaxKind) (d n : ℕ) (us : List Token) (c : AnnotatedForest) (ds : List Fault) → Complete m k d n (row_of_kind k) blank us c ds → fits 0 k ≡ true
     → ReadsTree d n (tokens_in c) (one_branch k c) us ds
 
--- how a reading continues where every such node has the next child
+-- how a reading continues at a child that its node always has
 pub data Front (m : ℕ) (p : SyntaxKind) (d n : ℕ) (q : Row) (b : AnnotatedForest) (us : List Token) : AnnotatedForest → List Fault → Type 0 where
   by_leaf : {k : SyntaxKind} {t : Token} {f : AnnotatedForest} {es : List Fault}
       → k ≡ leaf_kind p t → IsFollowed q b (Some k) → is_viable (after q k) ≡ true
@@ -63,20 +63,20 @@ pub data Front (m : ℕ) (p : SyntaxKind) (d n : ℕ) (q : Row) (b : AnnotatedFo
       → Complete m p d (end_from n (tokens_in c)) (after q k) (b ⊕ one_branch k c) us f es
       → Front m p d n q b us (branch k c f) ((ds ++ repeats k b c) ++ es)
 
--- each expression of a kind whose reading continues in one of these ways is read
+-- the steps read each expression of the kind whose reading continues in one of these ways
 abbrev pub KindReads : ℕ → SyntaxKind → Type 0
 KindReads m k =
     (d n : ℕ) (us : List Token) (c : AnnotatedForest) (es : List Fault) → Front m k d n (row_of_kind k) blank us c es
     → ReadsTree d n (tokens_in c) (one_branch k c) us es
 
--- every such node has the next child
+-- the node always has the next child
 abbrev pub is_firm : Row → Bool
 is_firm (Suffix kind · r) = true
 is_firm (Binary · r) = true
 is_firm (Argument · r) = true
 is_firm r = is_front r
 
--- then the row may not end here, no operand is counted, nothing is missing, and no run begins here
+-- so the row may not end here, no operand is counted, no part is missing, and no run begins
 firm : (r : Row) → is_firm r ≡ true → (may_end r ≡ false) × (counts r ≡ false) × (missing r ≡ None) × (run_at r ≡ None)
 firm (Child kind · r) h = (refl, refl, refl, refl)
 firm (Atom · r) h = (refl, refl, refl, refl)
@@ -87,12 +87,12 @@ firm (Argument · r) h = (refl, refl, refl, refl)
 firm (r or s) h = (refl, refl, refl, refl)
 firm _ h = absurd (cc)
 
--- equal readings
+-- complete readings at equal positions
 pub complete_to : {m n : ℕ} {p : SyntaxKind} {d : ℕ} {q r : Row} {b c : AnnotatedForest} {us : List Token} {f : AnnotatedForest} {es : List Fault}
     → r ≡ q → c ≡ b → Complete m p d n r c us f es → Complete m p d n q b us f es
 complete_to {m} {n} {p} {d} {q} {b = b} {c} {us} {f} {es} u v h = subst (λ b. Complete m p d n q b us f es) v (subst (λ q. Complete m p d n q c us f es) u h)
 
--- a row with a complete reading is viable, and if nothing is left of it, nothing is read
+-- a row with a complete reading is viable, and after its end nothing is read
 pub complete_viable : {m n : ℕ} {p : SyntaxKind} {d : ℕ} {q : Row} {b : AnnotatedForest} {us : List Token} {f : AnnotatedForest} {es : List Fault}
     → Complete m p d n q b us f es
     → is_viable q ≡ true
@@ -103,11 +103,11 @@ pub complete_done : {m n : ℕ} {p : SyntaxKind} {d : ℕ} {q : Row} {b : Annota
     → q ≡ done → (f ≡ blank) × (es ≡ [])
 complete_done w e = let ended = past_ends w.part.reads e (end_viable w.last w.over.0) in (ended.no_trees, ended.faults)
 
--- a number below a successor is at most its predecessor
+-- less than, without both successors
 pub less : (a m : ℕ) → suc a < suc m → a < m
 less a m h = omega (arith, h)
 
--- so is the first of two numbers whose sum is below a successor
+-- the first of two numbers is less than their sum's bound
 pub less_left : (a b m : ℕ) → suc (a + b) < suc m → a < m
 less_left a b m h = omega (arith, h)
 
@@ -115,7 +115,7 @@ less_left a b m h = omega (arith, h)
 pub less_right : (a b m : ℕ) → suc (a + b) < suc m → b < m
 less_right a b m h = omega (arith, h)
 
--- a forest that begins with an error node
+-- an error node there is a stray item, and the reading continues after it
 front_wrong : (m : ℕ) (p : SyntaxKind) (d n : ℕ) (q r : Row) (b : AnnotatedForest) (us : List Token) (f : AnnotatedForest) (es : List Fault) (note : Note)
     (ts : List Token)
     → IsExpected q n (ts ++ (tokens_in f ++ us)) false → IsFollowed q b (head_kind ts) → IsWrong note d q r ts (tokens_in f ++ us)
@@ -129,7 +129,7 @@ front_wrong m p d n q r b us f es Extra ts o w x h a = absurd (true_is_not_false
 front_wrong m p d n q r b us f es DoubleBind ts o w x h a = absurd x
 front_wrong m p d n q r b us f es TooDeep ts o w x h a = absurd (true_is_not_false (sym x.1 ∙ (firm q a).1))
 
--- a complete reading continues in one of these ways
+-- a complete reading at such a child continues in one of these ways
 pub front : (m : ℕ) {p : SyntaxKind} {d n : ℕ} {q s : Row} {b : AnnotatedForest} {us : List Token} {f : AnnotatedForest} {es : List Fault}
     (r : Reads p d n q s b us f es)
     → height r < suc m → is_firm q ≡ true → IsOver s (end_from n (tokens_in f)) us → Front m p d n q b us f es
@@ -152,7 +152,7 @@ front m {p = p} {d} {n} {q} {s} {b} {us} (wrong {r = r} {f = f} {es = es} note t
     }) a
 front m (second c v r) h a o = absurd (true_is_not_false (sym a))
 
--- so does one with a bound on its height
+-- so does a reading with a bound on its height
 pub front_of : {m : ℕ} {p : SyntaxKind} {d n : ℕ} {q r : Row} {b : AnnotatedForest} {us : List Token} {f : AnnotatedForest} {es : List Fault}
     → q ≡ r → Complete m p d n q b us f es → is_firm r ≡ true → Front m p d n r b us f es
 front_of {m} {p} {d} {n} {r = r} {b} {us} {f} {es} e h a = by (complete_to e refl h)
@@ -160,15 +160,15 @@ front_of {m} {p} {d} {n} {r = r} {b} {us} {f} {es} e h a = by (complete_to e ref
     by : Complete m p d n r b us f es → Front m p d n r b us f es
     by v = front m v.part.reads (omega (arith, v.part.short)) a v.over
 
--- no node may come next
+-- no node may come next in the row
 abbrev pub has_no_node_next : Row → Bool
 has_no_node_next q = list_all (λ j. if is_viable (after q j) then (if is_viable (row_of_kind j) then false else true) else true) all_kinds
 
--- then what comes next is of a kind without rows
+-- then the next child's kind has no rows
 no_node_row : (q : Row) → has_no_node_next q ≡ true → (j : SyntaxKind) → is_viable (after q j) ≡ true → is_viable (row_of_kind j) ≡ false
 no_node_row q h j l = not_if (is_viable (row_of_kind j)) (implied (λ i. is_viable (after q i)) (λ i. if is_viable (row_of_kind i) then false else true) h j l)
 
--- the next item of a row, and the rest of the row
+-- an item comes next in the row, and then the rest of the row
 pub record Item (m : ℕ) (k : SyntaxKind) (d : ℕ) (q : Row) (b : AnnotatedForest) (us : List Token) (f : AnnotatedForest) (es : List Fault) : Type 0 where
   pub item : Token
   pub more : AnnotatedForest
@@ -193,13 +193,13 @@ item_next h (by_leaf e y l r) = leaf_item e y l r
 item_next {q = q} h (by_stray o y z l r) = absurd (true_is_not_false (no_node_row q h NODE_LITERAL l))
 item_next {q = q} h (by_node {k = j} r y v i l r') = absurd (true_is_not_false (sym (complete_viable r) ∙ no_node_row q h j l))
 
--- an item that is the last of its row
+-- an item comes next and is the last of its row
 pub item_alone : {m : ℕ} {k : SyntaxKind} {d : ℕ} {q : Row} {b : AnnotatedForest} {us : List Token} {f : AnnotatedForest} {es : List Fault}
     (w : Item m k d q b us f es)
     → after q (leaf_kind k w.item) ≡ done → (f ≡ one_token (leaf_kind k w.item) w.item) × (es ≡ [])
 item_alone {k = k} w e = let v = complete_done w.rest e in (w.is ∙ ap (λ z. token (leaf_kind k w.item) w.item z) v.0, v.1)
 
--- a name that comes next in a row, and the rest of the row
+-- a name comes next in the row, and then the rest of the row
 pub record Name (m : ℕ) (k : SyntaxKind) (d : ℕ) (q : Row) (b : AnnotatedForest) (us : List Token) (f : AnnotatedForest) (es : List Fault) : Type 0 where
   pub item : Token
   pub more : AnnotatedForest
@@ -208,7 +208,7 @@ pub record Name (m : ℕ) (k : SyntaxKind) (d : ℕ) (q : Row) (b : AnnotatedFor
   pub alive : is_viable (after q NODE_IDENT) ≡ true
   pub rest : Complete m k d item.end (after q NODE_IDENT) (b ⊕ one_branch NODE_IDENT (one_token (leaf_kind NODE_IDENT item) item)) us more es
 
--- a name is a token of that kind
+-- a name's child is a TOKEN_IDENT
 name_first : (i : SyntaxKind) → is_viable (after (row_of_kind NODE_IDENT) i) ≡ true → i ≡ TOKEN_IDENT
 name_first i l = only (λ j. is_viable (after (row_of_kind NODE_IDENT) j)) TOKEN_IDENT refl i l
 
@@ -221,7 +221,7 @@ name_item r =
     let u = item_alone v (ap (after (row_of_kind NODE_IDENT)) e) in
     (v.item, u.0, e, u.1)
 
--- a node where only a name may be is a name
+-- where only a name may come next among nodes, a node is a name
 name_next : {m : ℕ} {k : SyntaxKind} {d e n : ℕ} {q : Row} {b : AnnotatedForest} {us vs : List Token} {c f : AnnotatedForest} {ds es : List Fault}
     (j : SyntaxKind) → j ≡ NODE_IDENT
     → is_viable (after q j) ≡ true → Complete m j e n (row_of_kind j) blank vs c ds
@@ -250,7 +250,7 @@ name_next {m} {k} {d} {e} {n} {q} {b} {us} {vs} {c} {f} {ds} {es} j h =
               (b ⊕ one_branch NODE_IDENT g) us f es) v.1 r');
         }
 
--- where only a name may come first among nodes, an item or a name comes next
+-- there an item or a name comes next
 pub item_or_name : {m : ℕ} {k : SyntaxKind} {d n : ℕ} {q : Row} {b : AnnotatedForest} {us : List Token} {f : AnnotatedForest} {es : List Fault}
     → names_only q ≡ true
     → Front m k d n q b us f es → Item m k d q b us f es ⊎ Name m k d q b us f es

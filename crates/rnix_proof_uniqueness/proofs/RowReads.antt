@@ -1,4 +1,4 @@
--- A forest from a position is read, if smaller forests and trees are.
+-- The steps read a forest from a position, if they read smaller forests and trees.
 use Rattle.std.proofs.Common.{◌≡◌, ℕ, true, false, List, [], ◌∷◌, ◌++◌, Option, Some, refl, ap, sym, ◌∙◌, subst, append-nil, arith, ◌⊎◌, inl, inr, ◌&&◌}
 use Rattle.{std.proofs.{Common.{if◌then◌else◌, suc, ◌<◌, append_assoc}, lemmas.Bool.and_parts}, rnix_kinds.proofs.AllKinds.implied}
 use Rattle.rnix_kinds.specs.declared.kinds.SyntaxKind.{SyntaxKind, TheVariants.{NODE_LITERAL, NODE_IDENT, NODE_PAT_ENTRY, TOKEN_IDENT, TOKEN_AT, NODE_ERROR}}
@@ -23,9 +23,9 @@ use Rattle.rnix_proof_uniqueness.proofs.ReadingHeights.{item_or_name, begins_so,
 use Rattle.rnix_grammar.specs.declared.position.Position.TheVariants as p
 use Rattle.rnix_grammar.specs.declared.action.Action.TheVariants as a
 
--- items at a position, in the row of a node, before others, where what is read ends in a row
+-- a position in the row of a node, and the row that is left after what is read
 module _ (q : SyntaxKind) (d n : ℕ) (x : Position) (r : Row) (b : AnnotatedForest) (here : is_at q x ≡ true) (on : is_viable r ≡ true) where
-  -- where an error node stands for an operand, an operand is read
+  -- where an error node replaces an operand, the action reads an operand
   stands : (ts : List Token) → after (rest_at x) NODE_LITERAL ≡ r → IsExpected (rest_at x) n ts false
       → Operands q (rest_at x) r (action_at x (head_kind ts) (touches n ts))
   stands ts h o =
@@ -33,7 +33,7 @@ module _ (q : SyntaxKind) (d n : ℕ) (x : Position) (r : Row) (b : AnnotatedFor
       (reads_at (done_at q x (touches n ts) (head_kind ts) here) (next_is q x n ts false here o)
       (or_true (is_any (level_at (rest_at x) blank)) (ap is_viable h ∙ on)))
 
-  -- an error node at a position is read there
+  -- the steps read an error node at the position
   pub wrong_one : (note : Note) (ts vs : List Token) → IsExpected (rest_at x) n (ts ++ vs) false → IsWrong note d (rest_at x) r ts vs
       → OneTo q d n x r b ts vs (one_fault note (row_of ts)) (report note ts ∷ [])
   wrong_one Stray [] vs o w = absurd (cc w.0)
@@ -79,21 +79,21 @@ module _ (q : SyntaxKind) (d n : ℕ) (x : Position) (r : Row) (b : AnnotatedFor
           ∙ too_far v.level d n y x h b fs (ts ++ []) gs w.2)
           (runs_to (cc (append-nil ts, dropped_all ts)) stays))
 
--- from a position of a row to another, after some trees and before some tokens
+-- from a position of a row to a rest of it, after some trees and before some tokens
 module _ (m : ℕ) (q : SyntaxKind) (d n : ℕ) (x : Position) (to : Row) (b : AnnotatedForest) (vs : List Token) where
-  -- what is to be shown of a node
+  -- the steps read a node at the position
   abbrev Inner : SyntaxKind → List Fault → AnnotatedForest → Type 0
   Inner k ds c = OneTo q d n x to b (tokens_in c) vs (one_branch k c) (ds ++ repeats k b c)
 
-  -- what is done before its items
+  -- the action before the node's items
   abbrev act_before : AnnotatedForest → Action
   act_before c = action_at x (head_kind (tokens_in c ++ vs)) (touches n (tokens_in c ++ vs))
 
-  -- an item opens it
+  -- the action opens the node at an index
   abbrev Opened : SyntaxKind → ℕ → AnnotatedForest → Type 0
   Opened k z c = IfNext (head_kind (tokens_in c ++ vs)) (λ j. after (row_of_kind k) (leaf_kind_as k j) ≡ remaining_at z)
 
-  -- a node that one token opens
+  -- a node that one token opens is read
   inner_opens : AllRows m → (z : ℕ) (k : SyntaxKind) (c : AnnotatedForest) (ds : List Fault) → Complete m k d n (row_of_kind k) blank vs c ds
       → is_inner k ≡ true → is_at k (p.InRow z) ≡ true → opens_with_item k ≡ true → Opened k z c → LeadsTo q to (a.Open k z) (act_before c) → Inner k ds c
   inner_opens rows z k c ds r i l o g act = by (item_or_name tests.0 (front_of refl r tests.1.0))
@@ -118,7 +118,7 @@ module _ (m : ℕ) (q : SyntaxKind) (d n : ℕ) (x : Position) (to : Row) (b : A
           (waits _ same) in
           absurd (true_is_not_false (sym other ∙ ap (λ j. if same_kind j TOKEN_IDENT then false else true) t.kind))
 
-  -- a name
+  -- a name is read
   inner_name : (c : AnnotatedForest) (ds : List Fault) → Complete m NODE_IDENT d n (row_of_kind NODE_IDENT) blank vs c ds
       → LeadsTo q to (a.Leaf NODE_IDENT) (act_before c) → Inner NODE_IDENT ds c
   inner_name c ds r act =
@@ -127,7 +127,7 @@ module _ (m : ℕ) (q : SyntaxKind) (d n : ℕ) (x : Position) (to : Row) (b : A
       (subst (λ (v : AnnotatedForest). LeadsTo q to (a.Leaf NODE_IDENT) (act_before v) → Inner NODE_IDENT [] v) (sym w.1)
       (λ act. goes_one (a.Leaf NODE_IDENT) act (λ y h fs gs e. runs_to (cc (append-nil gs)) stays)) act)
 
-  -- an entry of a pattern
+  -- an entry of a pattern is read
   inner_entry : AllRows m → (c : AnnotatedForest) (ds : List Fault) → Complete m NODE_PAT_ENTRY d n (row_of_kind NODE_PAT_ENTRY) blank vs c ds
       → IfNext (head_kind (tokens_in c ++ vs)) (λ j. j ≡ TOKEN_IDENT) → LeadsTo q to a.Entry (act_before c) → Inner NODE_PAT_ENTRY ds c
   inner_entry rows c ds r next act = by (item_or_name refl (front_of refl r refl))
@@ -141,7 +141,7 @@ module _ (m : ℕ) (q : SyntaxKind) (d n : ℕ) (x : Position) (to : Row) (b : A
           subst (λ (g : AnnotatedForest). LeadsTo q to a.Entry (act_before g) → Inner NODE_PAT_ENTRY ds g) (sym t.is)
           (λ act. goes_one a.Entry act (λ y h fs gs e. node_read (read_on rows (p.InRow PAT_ENTRY) refl t.rest) refl h (p.InRow y) d b fs gs)) act
 
-  -- a node that is no operand, by how it begins
+  -- a node that is no operand is read, however it begins
   inner_kind : AllRows m → (k : SyntaxKind) (c : AnnotatedForest) (ds : List Fault) → Complete m k d n (row_of_kind k) blank vs c ds
       → IsNode k q to (head_kind (tokens_in c ++ vs)) (act_before c)
       → Inner k ds c
@@ -152,7 +152,7 @@ module _ (m : ℕ) (q : SyntaxKind) (d n : ℕ) (x : Position) (to : Row) (b : A
   inner_kind rows k c ds r (by_entry e next act) =
       subst (λ k. Complete m k d n (row_of_kind k) blank vs c ds → Inner k ds c) (sym e) (λ r. inner_entry rows c ds r next act) r
 
-  -- an operand
+  -- an operand is read
   inner_operand : Trees m → (level : ℕ) (k : SyntaxKind) (c : AnnotatedForest) (ds : List Fault)
       → Complete m k (deeper (rest_at x) d) n (row_of_kind k) blank vs c ds
       → fits level k ≡ true → LeadsTo q to (a.Read level (counts (rest_at x))) (act_before c) → IsRoom (rest_at x) d
@@ -165,7 +165,7 @@ module _ (m : ℕ) (q : SyntaxKind) (d n : ℕ) (x : Position) (to : Row) (b : A
       (goes_one (a.Read level (counts (rest_at x))) act (λ y h fs gs g. one_operand x b room op.0 begun op.2
       (trees k (deeper (rest_at x) d) n vs c ds r e) y h fs gs))
 
--- a node that is at a position is read there
+-- the steps read a node at a position
 pub inner_one : (m : ℕ) → AllRows m → Trees m →
     {q k : SyntaxKind} {d n : ℕ} {x : Position} {b : AnnotatedForest} {vs : List Token} {c : AnnotatedForest} {ds : List Fault}
     → is_at q x ≡ true → Complete m k (deeper (rest_at x) d) n (row_of_kind k) blank vs c ds → IsRoom (rest_at x) d
@@ -184,7 +184,7 @@ inner_one m rows trees {q} {k} {d} {n} {x} {b} {vs} {c} {ds} l r room o op g = b
     by (inr w) =
         inner_kind m q d n x to b vs rows k c ds (subst (λ (v : ℕ). Complete m k v n (row_of_kind k) blank vs c ds) (w.0.deep d) r) w.1
 
--- a second name is read
+-- the steps read a second name of a pattern
 second_one : {m : ℕ} → AllRows m → {q : SyntaxKind} {d n : ℕ} {x : Position} {b c : AnnotatedForest} {vs : List Token} {ds : List Fault} → is_at q x ≡ true
     → rest_at x ≡ BoundAlready · done → Complete m NODE_ERROR d n second_name blank vs c ds
     → OneTo q d n x done b (tokens_in c) vs (one_fault DoubleBind c) (ds ++ report DoubleBind (tokens_in c) ∷ [])
@@ -204,7 +204,7 @@ second_one rows {q} {d} {n} {x} {b} {c} {vs} {ds} l i r =
     (gs ++ ds) row.here row.over)
     (runs_to (cc (append_assoc gs ds (report DoubleBind (t.item ∷ tokens_in t.more) ∷ []))) stays))))
 
--- a forest that is not so high is read
+-- the steps read a forest at a position, if they read lower ones
 pub row_next : (m : ℕ) → AllRows m → Trees m →
     {k : SyntaxKind} {d n : ℕ} {q s : Row} {b : AnnotatedForest} {us : List Token} {f : AnnotatedForest} {es : List Fault} (x : Position)
     → is_at k x ≡ true → rest_at x ≡ q → (r : Reads k d n q s b us f es) → height r < suc m → is_viable s ≡ true → ReadsTo k d n x s b us f es

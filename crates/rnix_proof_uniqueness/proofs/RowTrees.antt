@@ -1,4 +1,4 @@
--- How the steps read one more tree of a row, and the rest of the row after it.
+-- The steps read one more tree of a row, and then the rest of the row.
 use Rattle.std.proofs.Common.{◌≡◌, ℕ, Bool, true, false, List, [], ◌∷◌, ◌++◌, refl, ap, sym, ◌∙◌, subst, append-nil, append_assoc, suc, ◌<◌, ◌≤◌, Some, None}
 use Rattle.{std.proofs.{Common.{arith, if◌then◌else◌, nat_le}, lemmas.Bool.Decides.nat_tests}, rnix_kinds.specs.declared.kinds.SyntaxKind.SyntaxKind}
 use Rattle.rnix_kinds.specs.declared.kinds.SyntaxKind.TheVariants.{NODE_PAT_ENTRY, NODE_ERROR, NODE_ROOT}
@@ -16,21 +16,21 @@ use Rattle.rnix_proof_uniqueness.proofs.{ReadingHeights.IsLower, OperandBegins.s
 use Rattle.rnix_grammar.specs.declared.action.Action.TheVariants as a
 use Rattle.rnix_grammar.specs.declared.position.Position.TheVariants as p
 
--- the steps read the rest of a row from a position on, to a position where it ends
+-- the steps read the rest of a row, from a position to one at which the row may end
 pub record ReadOn (k : SyntaxKind) (d n : ℕ) (x : Position) (b : AnnotatedForest) (us : List Token) (f : AnnotatedForest) (es : List Fault) : Type 0 where
   pub position : Position
   pub row : ReadsRow k d n x position b us f es
   pub here : is_at k position ≡ true
   pub over : IsOver (rest_at position) (end_from n (tokens_in f)) us
 
--- so they do with each forest that is not so high
+-- so they do for each lower reading
 pub read_on : {m : ℕ} {k : SyntaxKind} {d n : ℕ} {b : AnnotatedForest} {us : List Token} {f : AnnotatedForest} {es : List Fault} → AllRows m → (x : Position)
     → is_at k x ≡ true → Complete m k d n (rest_at x) b us f es → ReadOn k d n x b us f es
 read_on {m} {k} {d} {n} {b} {us} {f} {es} rows x i w =
     let r = rows k d n x w.last b us f es i w.part (end_viable w.last w.over.0) in
     record { position = r.position; row = r.row; here = r.here; over = subst (λ (s : Row). IsOver s (end_from n (tokens_in f)) us) (sym r.is) w.over }
 
--- entries alone are reported
+-- only entries of patterns report anything when they close
 pub quiet : (k : SyntaxKind) (b c : AnnotatedForest) → is_closed k ≡ true → repeats k b c ≡ []
 quiet NODE_PAT_ENTRY b c e = absurd (true_is_not_false (sym e))
 quiet _ b c e = refl
@@ -50,7 +50,7 @@ closes_by k a.CloseEntry i d n x c F fs ts gs h =
 closes_by k a.CloseDoubleBind i d n x c F fs ts gs h = absurd (true_is_not_false (sym h ∙ ap is_inner (sym (same NODE_ERROR k i))))
 closes_by k _ i d n x c F fs ts gs h = absurd (true_is_not_false (sym h ∙ ap is_inner (sym (same NODE_ROOT k i))))
 
--- a node whose row is read to its end is complete
+-- a node is complete when its row is read to the end
 pub node_read : {k : SyntaxKind} {d m : ℕ} {x : Position} {g : AnnotatedForest} {vs : List Token} {f : AnnotatedForest} {ds : List Fault}
     → ReadOn k d m x g vs f ds
     → is_inner k ≡ true → (h : Head) (y : Position) (e : ℕ) (b : AnnotatedForest) (fs : List Frame) (gs : List Fault)
@@ -63,7 +63,7 @@ node_read {k} {d} {m} {x} {g} {vs} {f} {ds} r i h y e b fs gs =
     (opened h y e b) fs vs (gs ++ ds) i)
     (runs_to (ap (λ q. machine (opened h y e (b ⊕ one_branch k (g ⊕ f)) ∷ fs) vs n q) (append_assoc gs ds (repeats k b (g ⊕ f)))) here))
 
--- so is an operand's
+-- the same for a node that is an operand
 pub operand_read : {k : SyntaxKind} {d m : ℕ} {x : Position} {g : AnnotatedForest} {vs : List Token} {f : AnnotatedForest} {ds : List Fault}
     → ReadOn k d m x g vs f ds
     → is_inner k ≡ true → is_closed k ≡ true → (y : Position) (e : ℕ) (fs : List Frame) (gs : List Fault)
@@ -89,13 +89,13 @@ pub closes_second : (x : Position) (d n : ℕ) (c : AnnotatedForest) (F : Frame)
     (gs ++ report DoubleBind (tokens_in c) ∷ [])
 closes_second x d n c F fs ts gs h o = double_bind_by (action_at x (head_kind ts) (touches n ts)) (ends_at NODE_ERROR x n ts h o) x d n c F fs ts gs
 
--- The steps read a tree of some items on, from a position of a row to another.
+-- The steps read one more tree over some items, from a position of a row to another.
 abbrev pub ReadsOne : SyntaxKind → ℕ → ℕ → Position → Position → AnnotatedForest → List Token → List Token → AnnotatedForest → List Fault → Type 0
 ReadsOne k d n x y b ts vs w ds =
     (h : Head) (fs : List Frame) (gs : List Fault) → is_open h ≡ true → kind_of h ≡ k
     → Runs false (machine (opened h x d b ∷ fs) (ts ++ vs) n gs) (machine (opened h y d (b ⊕ w) ∷ fs) vs (end_from n ts) (gs ++ ds))
 
--- So they do to a position of the row where this is left of it.
+-- The steps read one more tree, to some position with this rest of the row.
 pub record OneTo (k : SyntaxKind) (d n : ℕ) (x : Position) (to : Row) (b : AnnotatedForest) (ts vs : List Token) (w : AnnotatedForest)
     (ds : List Fault) : Type 0 where
   pub position : Position
@@ -103,7 +103,7 @@ pub record OneTo (k : SyntaxKind) (d n : ℕ) (x : Position) (to : Row) (b : Ann
   pub here : is_at k position ≡ true
   pub one : ReadsOne k d n x position b ts vs w ds
 
--- so it is by what is done at the position
+-- this holds if the action at the position leads there
 pub goes_one : {k : SyntaxKind} {d n : ℕ} {x : Position} {to : Row} {b w : AnnotatedForest} {ts vs : List Token} {ds : List Fault} (f : ℕ → Action)
     → LeadsTo k to f (action_at x (head_kind (ts ++ vs)) (touches n (ts ++ vs)))
     → ((y : ℕ) (h : Head) (fs : List Frame) (gs : List Fault) → kind_of h ≡ k
@@ -118,12 +118,12 @@ goes_one {d = d} {n} {x} {b = b} {ts = ts} {vs} f g one =
       one = λ h fs gs o e. step_to (ap (λ z. perform false z (opened h x d b) fs (ts ++ vs) n gs) g.0) (one (goal action) h fs gs e);
     }
 
--- nothing more
+-- the steps read an empty rest of a row
 pub row_end : (k : SyntaxKind) (d n : ℕ) (x : Position) (s : Row) (b : AnnotatedForest) (us : List Token) → rest_at x ≡ s → is_at k x ≡ true
     → ReadsTo k d n x s b us blank []
 row_end k d n x s b us i e = record { position = x; is = i; here = e; row = λ h fs gs o e. runs_to (cc (⊕-blank b, append-nil gs)) here }
 
--- so the row is read if its first tree is
+-- the steps read a row if they read its first tree and the rest
 pub row_on : {m : ℕ} {k : SyntaxKind} {d n : ℕ} {x : Position} {to s : Row} {b : AnnotatedForest} {ts us : List Token} {w f : AnnotatedForest}
     {ds es : List Fault} → AllRows m
     → (o : OneTo k d n x to b ts (tokens_in f ++ us) w ds) → IsLower m k d (end_from n ts) to s (b ⊕ w) us f es → is_viable s ≡ true → tokens_in (w ⊕ f) ≡ ts
@@ -140,7 +140,7 @@ row_on {m} {k} {d} {n} {x} {to} {s} {b} {ts} {us} {w} {f} {ds} {es} rows o h l t
         (runs_on (o.one h fs gs i e)
         (runs_to (cc (t, ⊕-assoc b w f, end_behind n ts (tokens_in f), append_assoc gs ds es)) (r.row h fs (gs ++ ds) i e)))
 
--- a leaf
+-- the steps read a leaf
 pub one_leaf : {q : SyntaxKind} {d n : ℕ} {x : Position} {b : AnnotatedForest} {t : Token} {vs : List Token} → is_at q x ≡ true
     → IsExpected (rest_at x) n (t ∷ vs) true
     → is_viable (after (rest_at x) (leaf_kind q t)) ≡ true → OneTo q d n x (after (rest_at x) (leaf_kind q t)) b (t ∷ []) vs (one_token (leaf_kind q t) t) []
@@ -148,7 +148,7 @@ one_leaf {q} {d} {n} {x} {b} {t} {vs} l o g =
     goes_one a.Take (takes_at (done_at q x (touches n (t ∷ vs)) (Some t.kind) l) (next_is q x n (t ∷ vs) true l o) g)
     (λ y h fs gs e. runs_to (cc (e, append-nil gs)) here)
 
--- what is missing where the text ends
+-- the steps read a missing part at the end of the text
 pub row_lost : {m : ℕ} {k : SyntaxKind} {d n : ℕ} {x : Position} {r s : Row} {b : AnnotatedForest} {us : List Token} {f : AnnotatedForest} {e : Fault}
     {es : List Fault} → AllRows m
     → is_at k x ≡ true → us ≡ [] → tokens_in f ≡ [] → missing (rest_at x) ≡ Some (e, r) → (expects_end (rest_at x) ≡ false → IsRoom (rest_at x) d)
@@ -172,7 +172,7 @@ row_lost {m} {k} {d} {n} {x} {r} {s} {b} {us} {f} {e} {es} rows at u v l room h 
         (step_to (lost.steps h x n b fs gs) here))
         (runs_to (cc (append_assoc gs (e ∷ []) es)) (q.row h fs (gs ++ e ∷ []) o w))
 
--- an operand within the limit is read
+-- the action for an operand reads it, if it is within the limit
 reads_counted : (level : ℕ) (counted : Bool) (x : Position) (y d n : ℕ) (b : AnnotatedForest) (h : Head) (fs : List Frame) (ts : List Token) (gs : List Fault)
     → (counted ≡ true → d < depth_limit)
     → perform false (a.Read level counted y) (opened h x d b) fs ts n gs ≡ operand_on false level (if counted then suc d else d)
@@ -186,7 +186,7 @@ reads_counted level true x y d n b h fs ts gs r = by (nat_le depth_limit d) refl
     by true e = absurd (grind (arith, nat_tests, e, r refl))
     by false e = refl
 
--- an operand
+-- the steps read an operand
 pub one_operand : {d n level : ℕ} {w : AnnotatedForest} {ts vs : List Token} {ds : List Fault} (x : Position) (b : AnnotatedForest) → IsRoom (rest_at x) d
     → level ≤ row_level w
     → BeginsAs level w (ts ++ vs) → is_continued level w vs ≡ false → ReadsTree (deeper (rest_at x) d) n ts w vs ds
@@ -206,7 +206,7 @@ pub dropped_front : (ts vs : List Token) → dropped ts (ts ++ vs) ≡ vs
 dropped_front [] vs = refl
 dropped_front (t ∷ ts) vs = dropped_front ts vs
 
--- an operand beyond the limit is not
+-- the action for an operand beyond the limit reads none
 pub too_far : (level d n y : ℕ) (x : Position) (h : Head) (b : AnnotatedForest) (fs : List Frame) (ts : List Token) (gs : List Fault) → d ≡ depth_limit
     → perform false (a.Read level true y) (opened h x d b) fs ts n gs ≡ limited false (opened h (p.InRow y) d b) fs ts n gs
 too_far level d n y x h b fs ts gs r = by (nat_le depth_limit d) refl

@@ -1,4 +1,4 @@
--- Expressions are read as operands, if the forests and the expressions in them are read.
+-- The steps read expressions as operands, if they read the forests and expressions in them.
 use Rattle.std.proofs.Common.{◌≡◌, ℕ, ◌≤◌, Bool, true, false, List, [], ◌∷◌, ◌++◌, Some, None, refl, ap, sym, ◌∙◌, subst, append-nil, arith, ◌||◌, ◌&&◌}
 use Rattle.{std.proofs.{Common.{if◌then◌else◌, suc}, lemmas.Bool.and_parts}, rnix_kinds.{proofs.AllKinds.implied, specs.declared.kinds.SyntaxKind.SyntaxKind}}
 use Rattle.rnix_kinds.specs.declared.kinds.SyntaxKind.TheVariants.{TOKEN_FLOAT, TOKEN_OR, NODE_APPLY, NODE_IDENT, NODE_BIN_OP, NODE_HAS_ATTR, NODE_LAMBDA}
@@ -18,16 +18,16 @@ use Rattle.rnix_proof_uniqueness.proofs.{FunctionRows.lambda_reads, OperatorRows
 use Rattle.rnix_grammar.specs.declared.position.Position.TheVariants as p
 use Rattle.rnix_grammar.specs.declared.action.Action.TheVariants as a
 
--- how the first item of an argument continues a tree
+-- the first item of an argument continues a tree as its argument
 passes : (i : SyntaxKind) → is_fn_arg i ≡ true → continue_action i ≡ a.Apply
 passes TOKEN_FLOAT h = refl
 passes _ h = cc
 
--- the level of a call
+-- a call is at level 15, but at 16 if the argument is the name `or`
 call_level : (x v : AnnotatedForest) (w : Bool) → IsSingle x → is_or_row v ≡ w → row_level (one_branch NODE_APPLY (x ⊕ v)) ≡ (if w then 16 else 15)
 call_level x v w one h = ap (λ z. if z then 16 else 15) (single_calls x v one ∙ h)
 
--- a tree and its argument
+-- the steps read a call, if they read the function and the argument
 called : (zs xs : List Token) (x v : AnnotatedForest) (i : SyntaxKind) (d n : ℕ) (us : List Token) (es ds : List Fault) → IsSingle x
     → head_kind (xs ++ us) ≡ Some i → is_fn_arg i ≡ true → follows i x ≡ true
     → ReadsTree d n zs x (xs ++ us) es → ReadsTree d (end_from n zs) xs v us ds
@@ -50,7 +50,7 @@ called zs xs x v i d n us es ds one next arg follow tree passed plain tight begu
     level : row_level z ≡ 15
     level = call_level x v false one plain
 
--- a tree and the name `or`
+-- the steps read a call of the name `or`
 called_or : (zs : List Token) (x : AnnotatedForest) (t : Token) (d n : ℕ) (us : List Token) (es : List Fault) → IsSingle x → t.kind ≡ TOKEN_OR
     → follows t.kind x ≡ true
     → is_or_row (one_branch NODE_IDENT (one_token (leaf_kind NODE_IDENT t) t)) ≡ true → ReadsTree d n zs x (t ∷ us) es
@@ -64,21 +64,21 @@ called_or zs x t d n us es one kind follow named tree =
     (followed_selection z level refl) tree
     (λ level other f fs gs. runs_to (ap (λ w. machine (opened Operand (p.AfterOperand level 15) d z ∷ (f ∷ fs)) us t.end w) (sym (append-nil gs))) here)
 
--- what continues a tree as an argument, by the first item
+-- a tree and its argument: the first item is an argument's, and continues the tree
 followed : (i : SyntaxKind) (x : AnnotatedForest) → ((is_fn_arg i || is_or i) && follows i x) ≡ true → ((is_fn_arg i || is_or i) ≡ true) × (follows i x ≡ true)
 followed i x h = and_parts (is_fn_arg i || is_or i) (follows i x) h
 
--- of two tests of which one is passed the other fails
+-- if one of two tests passes and the second fails, the first passes
 plainly : (v w : Bool) → (v || w) ≡ true → w ≡ false → v ≡ true
 plainly true w h o = refl
 plainly false w h o = absurd (true_is_not_false (sym h ∙ o))
 
--- the name `or` is a name
+-- the argument `or` is a name
 named_or : (j : SyntaxKind) (e : AnnotatedForest) → is_or_row (one_branch j e) ≡ true → j ≡ NODE_IDENT
 named_or NODE_IDENT e h = refl
 named_or _ e h = absurd (true_is_not_false (sym h))
 
--- no lone token is called
+-- the argument of a call is not a token
 no_called_token : {m d n : ℕ} {us : List Token} (j : SyntaxKind) (t : Token) {f : AnnotatedForest} {fs : List Fault}
     → Front m NODE_APPLY d n (Argument · done) (one_token j t) us f fs → ⊥
 no_called_token j t (by_leaf {k = i} e w l q) = follows_token i j t blank (followed i (one_token j t) w).1
@@ -95,11 +95,11 @@ no_called_token {n = n} {us = us} j t (by_node {k = i} {c = c} {f = g} r y w x l
     by (v ∷ vs) e w = follows_token v.kind j t blank (followed v.kind (one_token j t)
         (subst (λ z. IsFollowed (Argument · done) (one_token j t) (head_kind z)) e w)).1
 
--- a tree, read, and what is called with it
+-- the steps read a call of a tree, if they have read the tree
 abbrev Called : ℕ → ℕ → List Token → AnnotatedForest → List Token → List Fault → List Token → AnnotatedForest → List Fault → Type 0
 Called d n zs x us es xs v ds = ReadsTree d n (zs ++ xs) (one_branch NODE_APPLY (x ⊕ v)) us (es ++ ds)
 
--- an argument that is no name `or`
+-- the steps read a call with an argument other than the name `or`
 argument : (d n : ℕ) (zs xs : List Token) (x v : AnnotatedForest) (us : List Token) (es ds : List Fault) → IsSingle x → ReadsTree d n zs x (xs ++ us) es
     → IsExpected (Argument · done) (end_from n zs) (xs ++ us) false
     → IsFollowed (Argument · done) x (head_kind (xs ++ us)) → is_or_row v ≡ false → 16 ≤ row_level v → BeginsAs 16 v (xs ++ us)
@@ -114,7 +114,7 @@ argument d n zs xs x v us es ds one reads o w plain tight begun over tree = by (
         let f = followed t.kind x w in called zs xs x v t.kind d n us es ds one (ap head_kind h)
         (plainly (is_fn_arg t.kind) (is_or t.kind) f.0 o) f.1 reads tree plain tight begun over
 
--- the name `or` as an argument
+-- the steps read a call with the name `or`
 name_or : (m d n : ℕ) (zs : List Token) (x : AnnotatedForest) (j : SyntaxKind) (c : AnnotatedForest) (us : List Token) (es ds : List Fault) → IsSingle x
     → ReadsTree d n zs x (tokens_in c ++ us) es → Complete m j d (end_from n zs) (row_of_kind j) blank us c ds
     → IsFollowed (Argument · done) x (head_kind (tokens_in c ++ us))
@@ -135,7 +135,7 @@ name_or m d n zs x j c us es ds one reads r w h =
         → Called d n zs x us es (tokens_in g) (one_branch NODE_IDENT g) []) (sym v.1)
         (λ reads w h. called_or zs x v.0 d n us es one (only is_or TOKEN_OR refl v.0.kind h) (followed v.0.kind x w).1 h reads) reads w h)
 
--- what is called with a tree is the last child of its node
+-- the argument is the last child of its node
 last_reads : (m d n : ℕ) (zs : List Token) (x : AnnotatedForest) (us : List Token) (f : AnnotatedForest) (es ds : List Fault) → Trees m → IsSingle x
     → ReadsTree d n zs x (tokens_in f ++ us) es → Front m NODE_APPLY d (end_from n zs) (Argument · done) x us f ds → Called d n zs x us es (tokens_in f) f ds
 last_reads m d n zs x us _ es _ trees one reads (by_leaf {k = i} e w l r) =
@@ -184,14 +184,14 @@ last_reads m d n zs x us _ es _ trees one reads (by_node {k = j} {c = c} {f = f}
         (subst (λ (u : List Token). BeginsAs 16 (one_branch j c) (u ++ us)) (append-nil (tokens_in c)) q.1) q.2
         (trees j d at us c ds r fits)
 
--- a call is read
+-- the steps read a call
 pub called_reads : (m : ℕ) → Trees m → KindReads m NODE_APPLY
 called_reads m trees d n us c es r =
     leading {q = Argument · done} {test = is_simple} trees (record { goes = λ j. refl; fitting = implied is_simple is_expression refl; deep = λ d. refl })
     (λ j t f fs r. no_called_token j t (front_of refl r refl))
     (λ zs x f es ds one tree r. last_reads m d n zs x us f es ds trees one tree (front_of refl r refl)) r
 
--- an expression of each kind is read
+-- the steps read an expression of each kind
 kind_reads : (m : ℕ) → AllRows m → Trees m → (k : SyntaxKind) → fits 0 k ≡ true → KindReads m k
 kind_reads m rows trees NODE_APPLY h = called_reads m trees
 kind_reads m rows trees NODE_SELECT h = selected_reads m rows trees
@@ -201,10 +201,10 @@ kind_reads m rows trees NODE_LAMBDA h = lambda_reads m rows
 kind_reads m rows trees NODE_LEGACY_LET h = legacy_reads m rows
 kind_reads m rows trees k h = led_reads m rows k h
 
--- an expression's row begins with a child
+-- the row of an expression begins with a child that its node always has
 expression_firm : (k : SyntaxKind) → fits 0 k ≡ true → is_firm (row_of_kind k) ≡ true
 expression_firm = implied (fits 0) (λ k. is_firm (row_of_kind k)) refl
 
--- the steps read an expression whose parts they read
+-- the steps read an expression if they read its parts
 pub tree_runs : (m : ℕ) → AllRows m → Trees m → Trees (suc m)
 tree_runs m rows trees k d n us c es w h = kind_reads m rows trees k h d n us c es (front m w.part.reads w.part.short (expression_firm k h) w.over)

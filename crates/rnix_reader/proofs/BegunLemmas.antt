@@ -1,4 +1,4 @@
--- How an operand begins, on what the reader holds.
+-- How an operand begins, in the reader's state.
 use Rattle.rnix_grammar.specs.declared.slot_table.TheConstants.{APPLIED, BOUND_PATTERN, LAMBDA, LEGACY_LET, PATTERN}
 use Rattle.std.proofs.Common.{◌≡◌, ◌+◌, ℕ, Bool, suc, true, false, if◌then◌else◌, nat_le, List, [], ◌∷◌, refl, ap, ◌∙◌, add-one}
 use Rattle.rnix_kinds.specs.declared.kinds.SyntaxKind.{SyntaxKind, TheVariants.{NODE_ERROR, NODE_IDENT, NODE_LAMBDA, NODE_IDENT_PARAM, NODE_PATTERN, NODE_PAT_BIND, NODE_LEGACY_LET}}
@@ -14,19 +14,19 @@ use Rattle.rnix_grammar.specs.declared.position.Position.TheVariants as p
 use Rattle.rnix_grammar.specs.declared.operand_start.OperandStart.TheVariants as b
 
 module _ (f : Frame) (fs : List Frame) (ts : List Token) (n : ℕ) (es : List Fault) where
-  -- what the reader holds
+  -- the reader's state
   abbrev reader_state : State
   reader_state = erase (machine (f ∷ fs) ts n es)
 
-  -- after the trivia
+  -- the tokens after the trivia
   abbrev us : List Token
   us = from_item ts
 
-  -- an operand is open, and f waits, with the trivia before it
+  -- the frames with an operand open, above the frame that waits for it, with the trivia before it
   abbrev on : Position → ℕ → List Frame
   on over d = opened Operand over d blank ∷ (put f.position (with_leading true f.children ts) f ∷ fs)
 
-  -- in it a function is open
+  -- and with a function open in the operand
   abbrev function : ℕ → ℕ → List Frame
   function level d = opened (Node NODE_LAMBDA) (p.InRow LAMBDA) d blank ∷ on (p.AfterOperand level 16) d
 
@@ -59,7 +59,7 @@ module _ (f : Frame) (fs : List Frame) (ts : List Token) (n : ℕ) (es : List Fa
       ap (node_begun k position d) (operand (p.AfterOperand level max_bp) d) ∙ ap (bumped k) (node k position d gs)
       ∙ erase-next _ k (opened (Node k) position d blank) gs ts n es
 
-  -- an operand begins as the machine's
+  -- the reader begins an operand as the machine does
   begins_as : (how : OperandStart) (level d : ℕ) (t : Token) → begun_as how level d t reader_state ≡ erase (begun true how level d t f fs ts n es)
   unfolding failed
   begins_as (b.Leaf k) level d t = leafs k level d t
@@ -98,7 +98,7 @@ module _ (f : Frame) (fs : List Frame) (ts : List Token) (n : ℕ) (es : List Fa
       (operand_on true level d f fs ts xs n es))
       [ [] ↦ refl | t ∷ xs ↦ begins_as (begins_with level t xs) level d t ]
 
-  -- what is nested too deep
+  -- the reader puts what is nested too deep into an error node as the machine does
   deep : limit_reported reader_state ≡ erase (limited true f fs ts n es)
   unfolding failed
   deep =
@@ -107,7 +107,7 @@ module _ (f : Frame) (fs : List Frame) (ts : List Token) (n : ℕ) (es : List Fa
       ap (λ x. failed too_deep (eaten x)) (erase-over _ TooDeep End run f fs ts n es (run_all run))
       ∙ ap (failed too_deep) (erase-eaten _ g fs (run_rest true run ts) (end_from n run) es)
 
-  -- an operand is read as the machine's, counted or not
+  -- the reader reads an operand, counted or not, as the machine does
   pub expression_is : (level : ℕ) (counted : Bool) → expression_read level counted f.depth reader_state ≡ erase (reading true level counted f fs ts n es)
   expression_is level true =
       elim (nat_le depth_limit f.depth) as (λ x. (if x then limit_reported reader_state else operand_read level (f.depth + 1) reader_state)

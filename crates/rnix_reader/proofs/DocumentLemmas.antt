@@ -1,4 +1,4 @@
--- A whole text.
+-- Reading a whole text.
 use Rattle.std.proofs.Common.{◌≡◌, ℕ, true, List, [], ◌∷◌, ◌++◌, map, refl, ap, sym, ◌∙◌, subst}
 use Rattle.{rnix_kinds.specs.{declared.kinds.SyntaxKind.TheVariants.NODE_ROOT, Lexical.Tokens.Lexeme}, rnix_green.specs.Forest.{Forest, empty, node}}
 use Rattle.rnix_green.specs.{Forest.tree_count, Draft.{Draft, blank, node_opened}, Tree.{Tree, forest_of}}
@@ -14,7 +14,7 @@ use Rattle.rnix_reader.proofs.{FrameKindLemmas.head_sort, StateLemmas.state_is, 
 use Rattle.rnix_grammar.specs.declared.position.Position.TheVariants as p
 use Rattle.rnix_grammar.specs.declared.action.Action.TheVariants as a
 
--- the root is open, and nothing is read
+-- before the first step the reader's state is that of a machine in which the root is open
 pub opened_root : (r : List Token) (b b0 : Draft) (errors : List ParseError) (marks : List Mark) (at : ℕ) (s : State) → b0 ≡ blank
     → b ≡ node_opened NODE_ROOT (tree_count b0.finished) b0
     → errors ≡ [] → marks ≡ [] → at ≡ tree_count b0.finished
@@ -42,7 +42,7 @@ tree_is_node t f e =
     ap (λ x. let y : Tree = record { kind = x; children = t.children } in y) kinds
     ∙ ap (λ x. let y : Tree = record { kind = NODE_ROOT; children = x } in y) trees
 
--- at the end of the text the root alone is open
+-- a machine that ends with the root alone has read the text
 abbrev pub root_through : {steps : ℕ} {from : Machine} (f : Frame) (fs : List Frame) (ts : List Token) (n : ℕ) (es : List Fault)
     → ComesIn steps from (machine (f ∷ fs) ts n es)
     → IsStackedOn f.head f.position fs → Allowed f.position (head_kind (items ts)) a.Finish → IsThrough from
@@ -57,7 +57,7 @@ root_through {steps} {from} f fs ts n es comes fit ends = record {
   nothing = no_items (items ts) ends.1;
 }
 
--- where the text is read its tree and its errors are as promised
+-- then the tree and the errors are those of the reading
 pub read_of : (ls : List Lexeme) (t : IsThrough (initial_machine (placed_from 0 ls))) (tree : Tree) (faults : List Fault)
     → tree ≡ record { kind = NODE_ROOT; children = forget (with_leading true t.root.children t.last.remaining) } → faults ≡ t.last.faults
     → IsRead ls tree faults
@@ -73,7 +73,7 @@ read_of ls t tree faults e f = record {
   faults_are = f;
 }
 
--- and so with what the reader holds
+-- so they are for the reader's state
 pub read_made : {Counted : ℕ → Type 0} (ls : List Lexeme) (ts : List Token) (s : State) (tree : Tree) → ts ≡ placed_from 0 ls → IsReadTo Counted ts s
     → forest_of tree ≡ s.trees → IsRead ls tree s.faults
 read_made {Counted} ls ts s tree e r t =
@@ -81,7 +81,7 @@ read_made {Counted} ls ts s tree e r t =
     read_of ls all.through tree s.faults (tree_is_node tree (forget (with_leading true all.through.root.children all.through.last.remaining)) (t
     ∙ all.trees)) all.faults
 
--- one more mark leaves the tokens
+-- one more mark leaves the tokens as they are
 pub rest_marked : (m : Mark) (s s' : State) → s' ≡ pushed m s → s'.rest ≡ s.rest
 unfolding pushed
 rest_marked m s s' e = ap (λ x. x.rest) e

@@ -1,4 +1,4 @@
--- The steps read each list of tokens to its end.
+-- The machine reads each list of tokens to its end.
 use Rattle.std.proofs.Common.{◌≡◌, ◌<◌, ◌+◌, ℕ, zero, suc, Bool, true, false, List, [], ◌∷◌, refl, sym, subst, arith}
 use Rattle.{rnix_kinds.specs.{declared.kinds.SyntaxKind.TheVariants.NODE_ROOT, Lexical.Tokens.Lexeme}, rnix_green.specs.Tree.Tree}
 use Rattle.rnix_grammar.specs.{declared.action.Action.Action, Fault.Fault, AnnotatedForest.{Token, placed_from, forget, head_kind, touches}, Layout.items}
@@ -18,7 +18,7 @@ finish_is : (action : Action) → is_finish action ≡ true → action ≡ a.Fin
 finish_is a.Finish e = refl
 finish_is _ e = absurd (true_is_not_false (sym e))
 
--- a machine with so much to do comes to its end
+-- a machine with less than `c` to do comes to its end
 through : (c : ℕ) (fs : List Frame) (ts : List Token) (n : ℕ) (es : List Fault) → cost_of (machine fs ts n es) < c → AreStacked fs
     → IsThrough (machine fs ts n es)
 through zero fs ts n es l k = absurd (omega (arith, l))
@@ -55,11 +55,11 @@ through (suc c) (f ∷ fs) ts n es l k = by (λ hs us m gs x y. through c hs us 
           nothing = rest.nothing;
         }
 
--- each list of tokens is read to its end
+-- the machine reads each list of tokens to its end
 pub each_through : (ts : List Token) → IsThrough (initial_machine ts)
 each_through ts = through (suc (cost_of (initial_machine ts))) (initial_machine ts).frames ts 0 [] (omega arith) (initial_stacked ts)
 
--- as a tree with errors
+-- so each list of tokens is read as a tree with errors
 pub each_read : (ls : List Lexeme) → (tree : Tree) × ((faults : List Fault) × IsRead ls tree faults)
 each_read ls =
     let t : IsThrough (initial_machine (placed_from 0 ls)) = each_through (placed_from 0 ls) in

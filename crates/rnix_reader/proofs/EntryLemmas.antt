@@ -1,4 +1,4 @@
--- The end of a pattern's entry: it is reported if an earlier entry has its name.
+-- The end of a pattern's entry: the entry is reported if an earlier one has its name.
 use Rattle.std.proofs.Common.{◌≡◌, ℕ, Bool, true, false, List, [], ◌∷◌, ◌++◌, Option, Some, None, refl, ap, sym, ◌∙◌, subst, append-nil, if◌then◌else◌}
 use Rattle.{rnix_kinds.specs.declared.kinds.SyntaxKind.TheVariants.{NODE_PATTERN, NODE_PAT_ENTRY}, rnix_grammar.specs.Fault.{Fault, duplicated_args}}
 use Rattle.rnix_grammar.specs.{AnnotatedForest.{Token, AnnotatedForest, without_trivia, extent_of}, Reports.{entry_name, has_entry, repeated_if}}
@@ -11,12 +11,12 @@ use Rattle.rnix_reader.{specs.Holds.{IsBegun, AreNamed, named_by, name_of, entri
 use Rattle.{rnix_proof_steps.proofs.BudgetedSteps.is_root, rnix_reader.proofs.FrameKindLemmas.{head_sort, head_entry, head_pattern, holds_entry}}
 use Rattle.rnix_grammar.specs.declared.action.Action.TheVariants as a
 
--- a pattern has the last of the sets
+-- a pattern has the last of the sets of names
 pub known_pattern : (h : Head) (trees : AnnotatedForest) (sets : List NameSet) (More : List NameSet → Type 0) → h ≡ Node NODE_PATTERN
     → AreOpenSetsOn h trees sets More → TopSet sets trees More
 known_pattern h trees sets More e k = subst (λ x. AreOpenSetsOn x trees sets More) e k
 
--- an entry that is complete, in its pattern: its name, the sets, and what becomes of them
+-- a complete entry in its pattern: its name, the sets before and after it, and its error
 pub record IsEntry (f g : Frame) (fs : List Frame) (names names' : Names) (again : Option Fault) : Type 0 where
   pub entry : f.head ≡ Node NODE_PAT_ENTRY
   pub pattern : g.head ≡ Node NODE_PATTERN
@@ -27,7 +27,7 @@ pub record IsEntry (f g : Frame) (fs : List Frame) (names names' : Names) (again
   pub entries : entries_in names' ≡ entries_of (g ∷ fs)
   pub fault_is : again ≡ (if has_name name.text top_set.set then Some (duplicated_args (extent_of (name ∷ [])) name.text) else None)
 
--- so it is at an entry's place
+-- this holds at the position of an entry
 pub entry_there : (f g : Frame) (fs : List Frame) (names names' : Names) (again : Option Fault) → IsStackedOn f.head f.position (g ∷ fs)
     → frame_kind f.position ≡ Entry
     → AreNamed f (g ∷ fs) names → EntryClosed again names names' → IsEntry f g fs names names' again
@@ -45,14 +45,14 @@ entry_there f g fs names names' again st e w c =
     let done = c.entered (entries_of (g ∷ fs)) t.text (extent_of (t ∷ [])) top_set.below top_set.set all top_set.all in
     record { entry = entry; pattern = pattern; name = t; named = begun.1; top_set = top_set; entered = done.0; entries = done.1; fault_is = done.2 }
 
--- what is reported
+-- reporting an entry adds its error at most once
 reported_once : (b : Bool) (e : Fault) (f g : Frame) (fs : List Frame) (ts : List Token) (n : ℕ) (es : List Fault)
     → reported_if (if b then Some e else None) (erase (closed f (g ∷ fs) ts n es)) ≡ erase (closed f (g ∷ fs) ts n (es ++ (if b then e ∷ [] else [])))
 unfolding failed
 reported_once true e f g fs ts n es = refl
 reported_once false e f g fs ts n es = ap (λ x. erase (closed f (g ∷ fs) ts n x)) (sym (append-nil es))
 
--- an entry is complete
+-- the reader completes an entry as the machine does
 pub done_entry : (f : Frame) (fs : List Frame) (ts : List Token) (n : ℕ) (es : List Fault) (names names' : Names) (s' : State)
     → IsStackedOn f.head f.position fs → AreNamed f fs names
     → frame_kind f.position ≡ Entry → EntryReported (popped (machine (f ∷ fs) ts n es)) names s' names' → s' ≡ erase (perform true a.CloseEntry f fs ts n es)

@@ -1,4 +1,4 @@
--- The reader's single steps on what it holds of a machine.
+-- The reader's single steps, in the state that corresponds to a machine.
 use Rattle.{std.proofs.Common.{◌≡◌, ℕ, true, false, List, [], ◌∷◌, ◌++◌, refl, ap, sym, ◌∙◌}, rnix_kinds.specs.declared.kinds.SyntaxKind.{SyntaxKind, TheVariants.NODE_ERROR}}
 use Rattle.rnix_green.{specs.{Forest.{Forest, join, tree_count}, Draft.wrapped-join, ForestCode.join_empty}, proofs.ForestLemmas.join_assoc}
 use Rattle.rnix_grammar.specs.{declared.{position.Position.Position, expected_set.ExpectedSet.ExpectedSet}, Fault.Fault, UnwantedRun.run_of, Layout.{items, from_item, trivia_before, tail_of, with_trivia}}
@@ -11,28 +11,28 @@ use Rattle.rnix_reader.{specs.{Erase.{trees_of, marks_of, mark_at, erase, erase_
 use Rattle.rnix_proof_steps.proofs.BudgetedSteps.{is_root}
 use Rattle.rnix_reader.proofs.StateLemmas.{state_is, eaten-settled}
 
--- one more forest after another
+-- adding one forest after another adds both joined
 grown : (t : Forest) (a b : AnnotatedForest) → join (join t (forget a)) (forget b) ≡ join t (forget (a ⊕ b))
 grown t a b = join_assoc t (forget a) (forget b) ∙ ap (join t) (sym (forget-⊕ a b))
 
--- the trivia before the next item go to the innermost frame
+-- the reader adds the trivia before the next item to the innermost frame
 pub erase-eaten : (ms : List Mark) (f : Frame) (fs : List Frame) (ts : List Token) (n : ℕ) (es : List Fault)
     → eaten (erase_with ms (machine (f ∷ fs) ts n es)) ≡ erase_with ms (machine (put f.position (with_leading true f.children ts) f ∷ fs) (from_item ts) n es)
 unfolding eaten
 erase-eaten ms f fs ts n es = state_is refl (grown (trees_of fs) f.children (trivia_before ts)) refl refl refl refl
 
--- after the trivia none are left
+-- after the trivia there are none to add
 pub erase-settled : (ms : List Mark) (fs : List Frame) (ts : List Token) (n : ℕ) (es : List Fault)
     → eaten (erase_with ms (machine fs (from_item ts) n es)) ≡ erase_with ms (machine fs (from_item ts) n es)
 erase-settled ms fs ts n es = eaten-settled (erase_with ms (machine fs (from_item ts) n es)) (from_item-from_item ts)
 
--- the next token goes to the innermost frame
+-- the reader adds the next token to the innermost frame
 erase-taken : (ms : List Mark) (k : SyntaxKind) (f : Frame) (fs : List Frame) (us : List Token) (n : ℕ) (es : List Fault)
     → taken k (erase_with ms (machine (f ∷ fs) us n es))
     ≡ erase_with ms (machine (put f.position (f.children ⊕ leaf_in k us) f ∷ fs) (tail_of us) (end_of n us) es)
 erase-taken ms k f fs us n es = state_is refl (grown (trees_of fs) f.children (leaf_in k us)) refl refl refl refl
 
--- and so does the next item
+-- the reader adds the next item to the innermost frame, after the trivia before it
 pub erase-bumped : (ms : List Mark) (k : SyntaxKind) (f : Frame) (fs : List Frame) (ts : List Token) (n : ℕ) (es : List Fault)
     → bumped k (erase_with ms (machine (f ∷ fs) ts n es)) ≡ erase_with ms
     (machine (put f.position (with_leading true f.children ts ⊕ leaf true k ts) f ∷ fs) (after_item true ts) (item_end true n ts) es)
@@ -40,32 +40,32 @@ unfolding bumped
 erase-bumped ms k f fs ts n es = ap (taken k) (erase-eaten ms f fs ts n es)
     ∙ erase-taken ms k (put f.position (with_leading true f.children ts) f) fs (from_item ts) n es
 
--- after the trivia it goes there alone
+-- after the trivia it adds the item alone
 pub erase-next : (ms : List Mark) (k : SyntaxKind) (f : Frame) (fs : List Frame) (ts : List Token) (n : ℕ) (es : List Fault)
     → bumped k (erase_with ms (machine (f ∷ fs) (from_item ts) n es)) ≡ erase_with ms
     (machine (put f.position (f.children ⊕ leaf true k ts) f ∷ fs) (after_item true ts) (item_end true n ts) es)
 unfolding bumped
 erase-next ms k f fs ts n es = ap (taken k) (erase-settled ms (f ∷ fs) ts n es) ∙ erase-taken ms k f fs (from_item ts) n es
 
--- a node is opened, with nothing in it
+-- the reader opens an empty node
 pub erase-started : (ms : List Mark) (k : SyntaxKind) (inside : Position) (d : ℕ) (fs : List Frame) (us : List Token) (n : ℕ) (es : List Fault)
     → started_here k (erase_with ms (machine fs us n es)) ≡ erase_with ms (machine (opened (Node k) inside d blank ∷ fs) us n es)
 unfolding started_at
 erase-started ms k inside d fs us n es = state_is refl (sym (join_empty (trees_of fs))) refl refl refl refl
 
--- with its mark
+-- the reader opens an empty node, with its mark
 pub erase-node_started : (k : SyntaxKind) (inside : Position) (d : ℕ) (fs : List Frame) (us : List Token) (n : ℕ) (es : List Fault)
     → node_here k inside d (erase (machine fs us n es)) ≡ erase (machine (opened (Node k) inside d blank ∷ fs) us n es)
 unfolding pushed
 erase-node_started k inside d fs us n es = ap (pushed (mark_at inside d (tree_count (trees_of fs)))) (erase-started (marks_of fs) k inside d fs us n es)
 
--- an operand begins, with nothing in it
+-- the reader begins an empty operand
 pub erase-operand : (inside : Position) (d : ℕ) (fs : List Frame) (us : List Token) (n : ℕ) (es : List Fault)
     → operand_here inside d (erase (machine fs us n es)) ≡ erase (machine (opened Operand inside d blank ∷ fs) us n es)
 unfolding pushed
 erase-operand inside d fs us n es = state_is refl (sym (join_empty (trees_of fs))) refl refl refl refl
 
--- what is open is complete, if it is a node
+-- the reader completes what is open, if that is a node
 pub erase-closed : (ms : List Mark) (h : Head) (position : Position) (d : ℕ) (trees : AnnotatedForest) (g : Frame) (fs : List Frame) (ts : List Token) (n : ℕ)
     (es : List Fault)
     → is_operand_frame (frame_kind_of_head h) ≡ false
@@ -77,21 +77,21 @@ erase-closed ms SecondBind position d trees g fs ts n es e =
     state_is refl (wrapped-join NODE_ERROR (trees_of (g ∷ fs)) (forget trees) ∙ grown (trees_of fs) g.children (made SecondBind trees)) refl refl refl refl
 erase-closed ms Operand position d trees g fs ts n es e = absurd (true_is_not_false e)
 
--- a node that is not the root is complete
+-- the reader completes a node that is not the root
 pub closes : (f : Frame) (fs : List Frame) (ts : List Token) (n : ℕ) (es : List Fault) → IsStackedOn f.head f.position fs
     → is_operand_frame (frame_kind f.position) ≡ false
     → is_root (frame_kind f.position) ≡ false → ended (popped (machine (f ∷ fs) ts n es)) ≡ erase (closed f fs ts n es)
 closes f [] ts n es st l r = absurd (true_is_not_false (sym (ap is_root st.1) ∙ r))
 closes f (g ∷ fs) ts n es st l r = erase-closed _ f.head f.position f.depth f.children g fs ts n es (ap is_operand_frame st.0 ∙ l)
 
--- an operand is complete
+-- the reader completes an operand
 pub settles : (f : Frame) (fs : List Frame) (ts : List Token) (n : ℕ) (es : List Fault) → IsStackedOn f.head f.position fs
     → frame_kind f.position ≡ OperandFrame
     → popped (machine (f ∷ fs) ts n es) ≡ erase (closed f fs ts n es)
 settles f [] ts n es st e = absurd (true_is_not_false (sym (ap is_root st.1) ∙ ap is_root e))
 settles f (g ∷ fs) ts n es st e = rw (head_operand f.head (st.0 ∙ e)) (state_is refl (grown (trees_of fs) g.children f.children) refl refl refl refl)
 
--- an error is the last of all
+-- an error comes after all others
 pub closed_failed : (e : Fault) (f : Frame) (fs : List Frame) (ts : List Token) (n : ℕ) (es : List Fault)
     → failed e (erase (closed f fs ts n es)) ≡ erase (closed f fs ts n (es ++ e ∷ []))
 unfolding failed
@@ -106,7 +106,7 @@ leaf_here ms k f fs us n es =
     ∙ ap ended (erase-taken ms k (opened (Node k) f.position f.depth blank) (f ∷ fs) us n es)
     ∙ erase-closed ms (Node k) f.position f.depth (leaf_in k us) f fs (tail_of us) (end_of n us) es (node_not_operand k)
 
--- a node over the next item
+-- the reader makes a node over the next item
 pub erase-leaf_node_made : (ms : List Mark) (k : SyntaxKind) (f : Frame) (fs : List Frame) (ts : List Token) (n : ℕ) (es : List Fault)
     → leaf_node_made k (erase_with ms (machine (f ∷ fs) ts n es))
     ≡ erase_with ms (machine (put f.position (with_leading true f.children ts ⊕ one_branch k (leaf true k ts)) f
@@ -115,13 +115,13 @@ erase-leaf_node_made ms k f fs ts n es =
     ap (λ x. ended (taken k (started_here k x))) (erase-eaten ms f fs ts n es)
     ∙ leaf_here ms k (put f.position (with_leading true f.children ts) f) fs (from_item ts) n es
 
--- after the trivia it is there alone
+-- after the trivia it makes the node over the item alone
 pub erase-first : (ms : List Mark) (k : SyntaxKind) (f : Frame) (fs : List Frame) (ts : List Token) (n : ℕ) (es : List Fault)
     → leaf_node_made k (erase_with ms (machine (f ∷ fs) (from_item ts) n es))
     ≡ erase_with ms (machine (put f.position (f.children ⊕ one_branch k (leaf true k ts)) f ∷ fs) (after_item true ts) (item_end true n ts) es)
 erase-first ms k f fs ts n es = ap (λ x. ended (taken k (started_here k x))) (erase-settled ms (f ∷ fs) ts n es) ∙ leaf_here ms k f fs (from_item ts) n es
 
--- an error node over a run
+-- the reader makes an error node over a run
 pub erase-over : (ms : List Mark) (note : Note) (until : ExpectedSet) (run : List Token) (f : Frame) (fs : List Frame) (ts : List Token) (n : ℕ)
     (es : List Fault) → run_of until (items ts) ≡ run
     → error_over until (erase_with ms (machine (f ∷ fs) ts n es))
@@ -137,7 +137,7 @@ erase-over ms note until run f fs ts n es r =
     ∙ state_is refl (wrapped-join NODE_ERROR (join (trees_of fs) (forget trees)) made
     ∙ grown (trees_of fs) trees (one_fault note (run_leaves true run ts))) refl refl refl refl
 
--- an operand becomes part of a node
+-- the reader makes an operand the first child of a node
 pub erase-wrapped : (ms : List Mark) (k : SyntaxKind) (inside over : Position) (f : Frame) (fs : List Frame) (ts : List Token) (n : ℕ) (es : List Fault)
     → f.head ≡ Operand
     → started_at (tree_count (trees_of fs)) k (erase_with ms (machine (put over f.children f ∷ fs) ts n es))

@@ -9,12 +9,12 @@ use Rattle.rnix_proof_lemmas.proofs.{Basics.true_is_not_false, EachIndex.each_in
 use Rattle.rnix_proof_lemmas.specs.FrameKinds.{may_hold, IsStackedOn}
 use Rattle.rnix_grammar.specs.declared.position.Position.TheVariants as p
 
--- those of a pattern
+-- the frame kind is that of a pattern
 abbrev pub is_pattern : FrameKind → Bool
 is_pattern Pattern = true
 is_pattern s = false
 
--- those of an operand
+-- the frame kind is that of an operand
 abbrev pub is_operand_frame : FrameKind → Bool
 is_operand_frame OperandFrame = true
 is_operand_frame s = false
@@ -23,7 +23,7 @@ abbrev is_second_bind_frame : FrameKind → Bool
 is_second_bind_frame SecondBindFrame = true
 is_second_bind_frame s = false
 
--- that of a name alone
+-- the frame kind is that of a name
 abbrev pub is_name : FrameKind → Bool
 is_name Name = true
 is_name s = false
@@ -37,7 +37,7 @@ node_not_second_bind : (k : SyntaxKind) → is_second_bind_frame (frame_kind_of_
 node_not_second_bind NODE_ROOT = refl
 node_not_second_bind k = refl
 
--- at a position after an operand an operand is open
+-- at a position after an operand, an operand is open
 pub head_operand : (h : Head) → frame_kind_of_head h ≡ OperandFrame → h ≡ Operand
 head_operand (Node k) e = absurd (true_is_not_false (sym (ap is_operand_frame e) ∙ node_not_operand k))
 head_operand SecondBind e = cc
@@ -64,18 +64,18 @@ pub holds_entry : (s : FrameKind) → may_hold s Entry ≡ true → s ≡ Patter
 holds_entry Pattern e = refl
 holds_entry _ e = cc
 
--- a head is at a position of its frame kind
+-- a head has the frame kind of its position
 pub head_sort : (head : Head) (position : Position) (fs : List Frame) → IsStackedOn head position fs → frame_kind_of_head head ≡ frame_kind position
 head_sort head position [] w = w.0
 head_sort head position (f ∷ fs) w = w.0
 
--- no place is that of a name
+-- no position is in the row of a name
 pub range_named : (position : Position) → is_name (frame_kind position) ≡ false
 range_named (p.InRow i) = each_index (λ i. is_name (frame_kind (p.InRow i)) ≡ false) (assumption) (λ i e d. ap (λ ss. is_name (frame_kind_in ss)) d) i
 range_named (p.AfterOperand min_bp max_bp) = refl
 range_named (p.Right level) = refl
 
--- at a position of a row no operand is open
+-- at a position in a row, no operand is open
 pub row_not_operand : (remaining : ℕ) → is_operand_frame (frame_kind (p.InRow remaining)) ≡ false
 row_not_operand remaining =
     each_index (λ i. is_operand_frame (frame_kind (p.InRow i)) ≡ false) (assumption) (λ i e d. ap (λ ss. is_operand_frame (frame_kind_in ss)) d) remaining

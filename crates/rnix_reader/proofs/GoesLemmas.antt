@@ -1,4 +1,4 @@
--- Each step of the machine keeps its tokens in order and the names known.
+-- Each step of the machine keeps its tokens in order and the sets of names right.
 use Rattle.rnix_grammar.specs.declared.slot_table.TheConstants.{BOUND_PATTERN, LAMBDA, LEGACY_LET, PATTERN}
 use Rattle.std.proofs.Common.{◌≡◌, ℕ, suc, Bool, true, false, List, [], ◌∷◌, Option, refl, ap, sym, ◌∙◌, subst, if◌then◌else◌, ◌&&◌, nat_le}
 use Rattle.rnix_kinds.specs.declared.kinds.SyntaxKind.{SyntaxKind, TheVariants.{NODE_ERROR, NODE_IDENT, NODE_LAMBDA, NODE_PATTERN, NODE_PAT_BIND}}
@@ -14,7 +14,7 @@ use Rattle.rnix_reader.proofs.{OrderLemmas.{order_from, order_behind, order_all}
 use Rattle.rnix_grammar.specs.declared.position.Position.TheVariants as p
 use Rattle.rnix_grammar.specs.declared.operand_start.OperandStart.TheVariants as b
 
--- the machine continues
+-- a machine whose tokens are in order, and whose names are in the sets
 pub record Goes (m : Machine) (names : Names) : Type 0 where
   pub top : Frame
   pub under : List Frame
@@ -23,25 +23,25 @@ pub record Goes (m : Machine) (names : Names) : Type 0 where
   pub range : HasRange names.second m.prev_end top.head top.children
   pub order : AreInOrder m.prev_end m.remaining
 
--- a machine continues whose names are known
+-- these are the conditions for a machine with frames
 pub goes : {f : Frame} {fs : List Frame} {ts : List Token} {n : ℕ} {es : List Fault} {names : Names} → AreNamed f fs names
     → HasRange names.second n f.head f.children
     → AreInOrder n ts → Goes (machine (f ∷ fs) ts n es) names
 goes {f = f} {fs = fs} w r o = record { top = f; under = fs; frames = refl; named = w; range = r; order = o }
 
--- what is no second name
+-- only a second name has a range to keep
 open_range : (m n : ℕ) (h : Head) (trees : AnnotatedForest) → is_open (frame_kind_of_head h) ≡ true → HasRange m n h trees
 open_range m n (Node k) trees e = tt
 open_range m n SecondBind trees e = absurd (true_is_not_false (sym e))
 open_range m n Operand trees e = tt
 
--- and so where no second name is innermost
+-- so they suffice if the innermost frame is no second name
 pub goes_open : {f : Frame} {fs : List Frame} {ts : List Token} {n : ℕ} {es : List Fault} {names : Names} → is_open (frame_kind_of_head f.head) ≡ true
     → AreNamed f fs names
     → AreInOrder n ts → Goes (machine (f ∷ fs) ts n es) names
 goes_open {f = f} {n = n} {names = names} e w o = goes w (open_range names.second n f.head f.children e) o
 
--- what holds something is no second name
+-- a frame that holds others is no second name
 pub holds_open : (s t : FrameKind) → may_hold s t ≡ true → is_open s ≡ true
 holds_open SecondBindFrame t e = absurd (true_is_not_false (sym e))
 holds_open s t e = refl
@@ -50,11 +50,11 @@ pub holder_open : (f : Frame) (fs : List Frame) (s : FrameKind) → IsStackedOn 
     → is_open (frame_kind_of_head f.head) ≡ true
 holder_open f fs s st m = ap is_open (head_sort f.head f.position fs st) ∙ holds_open (frame_kind f.position) s m
 
--- the same names serve as well
+-- equal names are as good
 pub stays : {m : Machine} {names names' : Names} → names' ≡ names → Goes m names → Goes m names'
 stays {m = m} e w = subst (Goes m) (sym e) w
 
--- an operand begins, where f waits
+-- an operand begins above a frame that waits for it
 module _ (level d : ℕ) (f : Frame) (fs : List Frame) (ts : List Token) (n : ℕ) (es : List Fault) (names : Names) (w : AreNamed f fs names)
     (o : AreInOrder n ts) where
   -- the frames below the operand
@@ -97,7 +97,7 @@ module _ (level d : ℕ) (f : Frame) (fs : List Frame) (ts : List Token) (n : �
       begun_goes t (head_kind us) (operand_start_of level t.kind t.text (head_kind us) (second_kind us)) names'
       (operand_start_inner level t.kind t.text (head_kind us) (second_kind us)) e
 
--- what is nested too deep
+-- the machine continues when everything left is nested too deep
 limited_goes : (f : Frame) (fs : List Frame) (ts : List Token) (n : ℕ) (es : List Fault) (names : Names) → AreNamed f fs names
     → is_open (frame_kind_of_head f.head) ≡ true → AreInOrder n ts
     → Goes (limited true f fs ts n es) names
@@ -108,7 +108,7 @@ limited_goes f fs ts n es names w m o =
     grow_behind f.position ts (one_fault TooDeep trees) (no_entry_fault TooDeep trees) w in
     goes_open m (grow_trivia f.position remaining grown) (order_from (end_from n (items ts)) remaining (order_all n ts o).0)
 
--- an operand of a level is read
+-- the machine continues when an operand of a level is read
 pub reading_goes : (level : ℕ) (counted : Bool) (f : Frame) (fs : List Frame) (ts : List Token) (n : ℕ) (es : List Fault) (names names' : Names)
     → AreNamed f fs names → is_open (frame_kind_of_head f.head) ≡ true → AreInOrder n ts
     → NamesFor (if counted && nat_le depth_limit f.depth then false else opens_on level (items ts)) names names'

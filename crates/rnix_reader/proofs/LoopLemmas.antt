@@ -1,4 +1,4 @@
--- Reading step by step: the machine takes the same steps as the reader.
+-- The reader takes the same steps as the machine, turn by turn.
 use Rattle.std.proofs.{Common.{◌≡◌, ◌<◌, ◌+◌, ℕ, true, false, Option, Some, None, List, [], ◌∷◌, ◌++◌, length, refl, ap, sym, ◌∙◌, subst, arith}, lemmas.List.same_from_push}
 use Rattle.{std.{proofs.lemmas.Bool.false≢true, specs.Prelude.if◌then◌else◌}, rnix_kinds.specs.declared.kinds.{SyntaxKind.SyntaxKind, SyntaxKind.TheVariants.TOKEN_DOT}}
 use Rattle.{rnix_kinds.specs.declared.kinds.SyntaxKind.TheVariants.NODE_ROOT, rnix_green.specs.{Forest.{empty, node}, Draft.wrapped-join}}
@@ -18,7 +18,7 @@ use Rattle.rnix_reader.proofs.{StepsOfReader.{ready, performs}, GoesLemmas.Goes,
 use Rattle.rnix_grammar.specs.declared.position.Position.TheVariants as p
 use Rattle.rnix_grammar.specs.declared.action.Action.TheVariants as a
 
--- the text before it is read
+-- before the first turn nothing has been read
 pub starts : (Counted : ℕ → Type 0) (s : State) (names : Names) → Counted 0 → s ≡ erase (initial_machine s.rest) → AreInOrder 0 s.rest
     → names.sets.items ≡ [] → entries_in names ≡ []
     → IsGoing Counted s.rest s names
@@ -36,12 +36,12 @@ starts Counted s names n e o k t = record {
   named = record { begun = (tt, tt); sets = k; entries = t };
 }
 
--- an action other than the end of the root does not end the reading
+-- an action other than `Finish` does not end the reading
 not_finish : (action : Action) → (action ≡ a.Finish → ⊥) → is_finish action ≡ false
 not_finish a.Finish h = absurd (h refl)
 not_finish action h = refl
 
--- an action of the table for what follows an operand continues the operand
+-- the actions in the table for what follows an operand continue the operand
 pub continue_action_is_continuation : (kind : SyntaxKind) → is_continuation (continue_action kind) ≡ true
 continue_action_is_continuation TOKEN_DOT = refl
 continue_action_is_continuation kind = refl
@@ -51,7 +51,7 @@ continue_action_is_no_finish : (kind : SyntaxKind) → is_finish (continue_actio
 continue_action_is_no_finish TOKEN_DOT = refl
 continue_action_is_no_finish kind = refl
 
--- nor does any action after an operand
+-- no action after an operand ends the reading
 more_goes : (min_bp max_bp : ℕ) (next : Option SyntaxKind) → is_finish (more_action min_bp max_bp next) ≡ false
 more_goes min_bp max_bp None = refl
 more_goes min_bp max_bp (Some kind) =
@@ -65,7 +65,7 @@ pub operand_goes : (position : Position) (min_bp max_bp : ℕ) (s : State) → p
 operand_goes position min_bp max_bp s is end =
     false≢true (sym (more_goes min_bp max_bp (head_kind (items_remaining s))) ∙ ap is_finish (sym (ap (λ q. action_of q s) is) ∙ end))
 
--- at a position of a row no action continues or completes an operand
+-- at a position in a row, no action continues or completes an operand
 no_operand : (position : Position) (remaining : ℕ) → position ≡ p.InRow remaining → frame_kind position ≡ OperandFrame → ⊥
 no_operand position remaining e h =
     true_is_not_false (sym (ap is_operand_frame h) ∙ ap (λ q. is_operand_frame (frame_kind q)) e ∙ row_not_operand remaining)
@@ -79,14 +79,14 @@ row_action position next a.Apply remaining e al other = absurd (no_operand posit
 row_action position next a.ApplyOr remaining e al other = absurd (no_operand position remaining e al.1)
 row_action position next action remaining e al other = refl
 
--- the root over all trees
+-- the complete root is the tree over all trees
 root_ended : (h : Head) (position : Position) (d : ℕ) (children : AnnotatedForest) (ts : List Token) (n : ℕ) (es : List Fault) → h ≡ Node NODE_ROOT
     → ended (erase_with [] (machine (opened h position d children ∷ []) ts n es))
     ≡ (let y : State = record { rest = ts; trees = node NODE_ROOT (forget children) empty; open_nodes = []; faults = es; prev_end = n; marks = [] } in y)
 unfolding ended
 root_ended h position d children ts n es e = rw e (state_is refl (wrapped-join NODE_ROOT empty (forget children)) refl refl refl refl)
 
--- what follows for the innermost mark: the action can be performed and leaves less work, or the reading is complete
+-- what follows for the innermost mark: its action can be performed and leaves less to do, or the reading is complete
 pub record Turn (Counted : ℕ → Type 0) (steps : ℕ) (first : List Token) (s : State) (names : Names) (mark : Mark) (s1 : State) (action : Action) : Type 0 where
   pub ready : IsReady action mark s1 names
   pub row : (remaining : ℕ) → mark.position ≡ p.InRow remaining → (action ≡ a.Finish → ⊥) → is_row_action action ≡ true
@@ -105,7 +105,7 @@ module _ {Before : ℕ → Type 0} {first : List Token} {s : State} {names : Nam
   may : Allowed g.top.position (head_kind (items g.remaining)) action
   may = allowed g.top.position (head_kind (items g.remaining)) (touches g.prev_end (items g.remaining))
 
-  -- the loop takes a step
+  -- a turn of the loop is a step of the machine
   going : Counted (g.steps + 1) → (s' : State) (names' : Names) → (action ≡ a.Finish → ⊥)
       → Performed action (mark_of g.top g.under) (popped before) names s' names'
       → NamesAfter action (mark_of g.top g.under) (popped before) names names' → IsGoing Counted first s' names' × (work s' < work s)
@@ -137,7 +137,7 @@ module _ {Before : ℕ → Type 0} {first : List Token} {s : State} {names : Nam
         ),
       )
 
-  -- the reading is complete
+  -- the last turn ends the reading
   read : Counted (g.steps + 1) → (s' : State) → action ≡ a.Finish → s' ≡ ended (eaten (popped before)) → IsReadTo Counted first s'
   read n s' q e =
       let end : Allowed g.top.position (head_kind (items g.remaining)) a.Finish = subst (Allowed g.top.position (head_kind (items g.remaining))) q may in
@@ -169,7 +169,7 @@ module _ {Before : ℕ → Type 0} {first : List Token} {s : State} {names : Nam
         finished = read;
       }
 
-  -- this holds for the mark that the loop takes
+  -- this holds for the mark that the loop pops
   pub turn : (ms : List Mark) (mark : Mark) (x : Action) → s.marks ≡ ms ++ mark ∷ [] → x ≡ action_of mark.position (with_marks ms s)
       → Turn Counted g.steps first s names mark (with_marks ms s) x
   turn ms mark x e k =

@@ -14,7 +14,7 @@ other_names : {K : Type 0} (eq : K → K → Bool) (test : K → Bool) (old new 
 unfolding KeepsOthers
 other_names eq test old new h = h
 
--- g is true at bs, and f at other names
+-- a function that is true of one name and agrees with another on all others
 by_name : (f g : List ℕ → Bool) (bs : List ℕ) → g bs ≡ true → ((cs : List ℕ) → bytes_eq bs cs ≡ false → g cs ≡ f cs) → (cs : List ℕ)
     → g cs ≡ cond (bytes_eq bs cs) true (f cs)
 by_name f g bs here other cs = by (bytes_eq bs cs) (bytes_eq-Decides bs cs).0 (other cs)
@@ -23,7 +23,7 @@ by_name f g bs here other cs = by (bytes_eq bs cs) (bytes_eq-Decides bs cs).0 (o
     by true y n = subst (λ l. g l ≡ true) (y refl) here
     by false y n = n refl
 
--- a set has one more name
+-- an updated set contains one more name
 pub names_updated : (bs : List ℕ) (s n : BTreeSet (Bor (List ℕ)))
     → sorted.UpdatesBy (λ x y. slice_cmp nat_cmp x.now y.now) (λ k. slice_cmp nat_cmp bs k.now) s n true
     → (cs : List ℕ) → sorted.contains_by (λ k. slice_cmp nat_cmp cs k.now) n ≡ cond (bytes_eq bs cs) true
@@ -32,7 +32,7 @@ names_updated bs s n h =
     by_name (λ ds. sorted.contains_by (λ k. slice_cmp nat_cmp ds k.now) s) (λ ds. sorted.contains_by (λ k. slice_cmp nat_cmp ds k.now) n) bs h.1
     (λ cs e. other_names _ _ _ _ h.3 _ (λ x y. (eq_by_cmp_equiv nat_list_cmp_total).congr cs x.now y.now) (λ k. apart bs cs k.now e))
 
--- a name that is not new was in the set
+-- a name that was not added was in the set before
 pub contained : (bs : List ℕ) (s : BTreeSet (Bor (List ℕ))) (added : Bool)
     → added ≡ not (sorted.contains_by (λ k. slice_cmp nat_cmp bs k.now) s) → not added ≡ sorted.contains_by (λ k. slice_cmp nat_cmp bs k.now) s
 contained bs s added e = ap not e ∙ not-not (sorted.contains_by (λ k. slice_cmp nat_cmp bs k.now) s)

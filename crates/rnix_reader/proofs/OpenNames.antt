@@ -1,4 +1,4 @@
--- Frames that are opened, grow and close: the names stay known.
+-- The sets of names stay right when frames open, grow and close.
 use Rattle.std.proofs.Common.{◌≡◌, ℕ, Bool, true, false, List, [], ◌∷◌, ◌++◌, Option, Some, None, refl, ap, sym, ◌∙◌, subst, append-nil, if◌then◌else◌}
 use Rattle.{std.specs.Str.bytes_eq, rnix_kinds.specs.declared.kinds.SyntaxKind.{SyntaxKind, TheVariants.{NODE_PATTERN, NODE_PAT_ENTRY}}}
 use Rattle.rnix_grammar.specs.{declared.{slot_table.TheConstants.{PAT_ENTRY, SECOND_BIND}, position.Position.Position}, Fault.Fault, AnnotatedForest.{Token, AnnotatedForest}}
@@ -12,7 +12,7 @@ use Rattle.rnix_reader.proofs.{EntryLemmas.{known_pattern, IsEntry}, FrameKindLe
 use Rattle.rnix_reader.proofs.RowLemmas.{name_more, known_more, known_entry}
 use Rattle.rnix_grammar.specs.declared.position.Position.TheVariants as p
 
--- a forest grows at its end
+-- they stay right when a frame grows by trees without entries
 pub grow : {f : Frame} {fs : List Frame} {names : Names} (after : Position) (g : AnnotatedForest)
     → (is_pattern (frame_kind_of_head f.head) ≡ true → HasNoEntry g)
     → AreNamed f fs names → AreNamed (put after (f.children ⊕ g) f) fs names
@@ -22,21 +22,21 @@ grow {f = f} {fs = fs} {names = names} after g q w = record {
   entries = w.entries ∙ ap (λ x. entries_of fs ++ named_by x) (sym (name_more f.head f.children g w.begun.0));
 }
 
--- a row continues at another position
+-- when a frame moves to another position
 pub moved_on : {f : Frame} {fs : List Frame} {names : Names} (after : Position) → AreNamed f fs names → AreNamed (put after f.children f) fs names
 moved_on after w = record { begun = w.begun; sets = w.sets; entries = w.entries }
 
--- a forest grows by trivia
+-- when a frame grows by trivia
 pub grow_trivia : {f : Frame} {fs : List Frame} {names : Names} (after : Position) (ts : List Token) → AreNamed f fs names
     → AreNamed (put after (with_leading true f.children ts) f) fs names
 grow_trivia after ts w = grow after (trivia_before ts) (λ q. no_entry_trivia ts) w
 
--- and by more after them
+-- when a frame grows by trivia and trees without entries
 pub grow_behind : {f : Frame} {fs : List Frame} {names : Names} (after : Position) (ts : List Token) (g : AnnotatedForest) → HasNoEntry g
     → AreNamed f fs names → AreNamed (put after (with_leading true f.children ts ⊕ g) f) fs names
 grow_behind after ts g none w = grow after g (λ q. none) (grow_trivia after ts w)
 
--- heads of which no names are known
+-- frame kinds that keep no names
 abbrev pub has_no_names : FrameKind → Bool
 has_no_names Pattern = false
 has_no_names Entry = false
@@ -59,11 +59,11 @@ node_begun : (k : SyntaxKind) (trees : AnnotatedForest) → has_no_names (frame_
 node_begun NODE_PAT_ENTRY trees e = absurd (true_is_not_false (sym e))
 node_begun k trees e = tt
 
--- no name is added
+-- a node without a name adds none
 same_entries : (fs : List Frame) (x : Option Token) → x ≡ None → entries_of fs ++ named_by x ≡ entries_of fs
 same_entries fs x e = ap (λ y. entries_of fs ++ named_by y) e ∙ append-nil (entries_of fs)
 
--- a frame on others
+-- when a frame that keeps no names opens
 push : {f : Frame} {fs : List Frame} {names : Names} (h : Head) (position : Position) (d : ℕ) (trees : AnnotatedForest)
     → has_no_names (frame_kind_of_head h) ≡ true
     → IsBegun h trees → AreNamed f fs names → AreNamed (opened h position d trees) (f ∷ fs) names
@@ -73,18 +73,18 @@ push {f = f} {fs = fs} {names = names} h position d trees b i w = record {
   entries = w.entries ∙ sym (same_entries (f ∷ fs) (name_of h trees) (no_names_name h trees b));
 }
 
--- a node is opened above a frame
+-- when a node opens
 pub push_node : {f : Frame} {fs : List Frame} {names : Names} (k : SyntaxKind) (position : Position) (d : ℕ) (trees : AnnotatedForest)
     → frame_kind_of_node k ≡ NodeFrame
     → AreNamed f fs names → AreNamed (opened (Node k) position d trees) (f ∷ fs) names
 push_node k position d trees s w = push (Node k) position d trees (ap has_no_names s) (node_begun k trees (ap has_no_names s)) w
 
--- an operand is opened
+-- when an operand opens
 pub push_operand : {f : Frame} {fs : List Frame} {names : Names} (min_bp max_bp d : ℕ) (trees : AnnotatedForest) → AreNamed f fs names
     → AreNamed (opened Operand (p.AfterOperand min_bp max_bp) d trees) (f ∷ fs) names
 push_operand min_bp max_bp d trees w = push Operand (p.AfterOperand min_bp max_bp) d trees refl tt w
 
--- a second name is opened
+-- when a second name opens
 pub push_second : {f : Frame} {fs : List Frame} {names names' : Names} (d : ℕ) (trees : AnnotatedForest) → IsBegun SecondBind trees
     → names'.sets.items ≡ names.sets.items → entries_in names' ≡ entries_in names → AreNamed f fs names
     → AreNamed (opened SecondBind (p.InRow SECOND_BIND) d trees) (f ∷ fs) names'
@@ -94,7 +94,7 @@ push_second {f = f} {fs = fs} d trees i s e w = record {
   entries = e ∙ w.entries ∙ sym (append-nil (entries_of (f ∷ fs)));
 }
 
--- a pattern is opened, with a new set
+-- when a pattern opens, with a new set
 pub push_pattern : {f : Frame} {fs : List Frame} {names names' : Names} (position : Position) (d : ℕ) (trees : AnnotatedForest)
     → HasNoEntry trees → PatternOpened names names' → AreNamed f fs names → AreNamed (opened (Node NODE_PATTERN) position d trees) (f ∷ fs) names'
 push_pattern {f = f} {fs = fs} {names = names} position d trees none o w = record {
@@ -103,7 +103,7 @@ push_pattern {f = f} {fs = fs} {names = names} position d trees none o w = recor
   entries = o.entries ∙ w.entries ∙ sym (append-nil (entries_of (f ∷ fs)));
 }
 
--- an entry is opened, with its name
+-- when an entry opens, with its name
 pub push_entry : {f : Frame} {fs : List Frame} {names names' : Names} (d : ℕ) (trees : AnnotatedForest) (t : Token)
     → entry_name (without_trivia trees) ≡ Some t → EntryOpened (entry_at t) names names' → AreNamed f fs names
     → AreNamed (opened (Node NODE_PAT_ENTRY) (p.InRow PAT_ENTRY) d trees) (f ∷ fs) names'
@@ -113,7 +113,7 @@ push_entry {f = f} {fs = fs} d trees t e o w = record {
   entries = o.entries ∙ ap (λ x. x ++ entry_at t ∷ []) w.entries ∙ ap (λ x. entries_of (f ∷ fs) ++ named_by x) (sym e);
 }
 
--- an operand in the place of another
+-- when an operand replaces another
 pub instead : {f : Frame} {fs : List Frame} {names : Names} (min_bp max_bp d : ℕ) (trees : AnnotatedForest) → f.head ≡ Operand → AreNamed f fs names
     → AreNamed (opened Operand (p.AfterOperand min_bp max_bp) d trees) fs names
 instead {f = f} {fs = fs} {names = names} min_bp max_bp d trees o w = record {
@@ -122,7 +122,7 @@ instead {f = f} {fs = fs} {names = names} min_bp max_bp d trees o w = record {
   entries = w.entries ∙ ap (λ h. entries_of fs ++ named_by (name_of h f.children)) o;
 }
 
--- what closes has no entry of its own
+-- the node of a frame without names has no entry
 made_quiet : (h : Head) (trees : AnnotatedForest) (s : FrameKind) → has_no_names (frame_kind_of_head h) ≡ true → may_hold s (frame_kind_of_head h) ≡ true
     → is_pattern s ≡ true → HasNoEntry (made h trees)
 made_quiet (Node NODE_PAT_ENTRY) trees s b m q = absurd (true_is_not_false (sym b))
@@ -131,7 +131,7 @@ made_quiet SecondBind trees s b m q = λ name. refl
 made_quiet Operand trees Pattern b m q = absurd (true_is_not_false (sym m))
 made_quiet Operand trees s b m q = absurd (true_is_not_false (sym q))
 
--- a frame is complete
+-- when a frame without names closes
 pub pop : {f g : Frame} {fs : List Frame} {names : Names} → IsStackedOn f.head f.position (g ∷ fs) → has_no_names (frame_kind f.position) ≡ true
     → AreNamed f (g ∷ fs) names
     → AreNamed (put g.position (g.children ⊕ made f.head f.children) g) fs names
@@ -146,7 +146,7 @@ pop {f = f} {g = g} {fs = fs} {names = names} st b w =
     (λ q. made_quiet f.head f.children (frame_kind g.position) bare (ap (may_hold (frame_kind g.position)) st.0 ∙ st.1)
     (ap is_pattern (sym (head_sort g.head g.position fs st.2)) ∙ q)) kept
 
--- a pattern is complete, and its set is dropped
+-- when a pattern closes, and its set is dropped
 pub pop_pattern : {f g : Frame} {fs : List Frame} {names names' : Names} → f.head ≡ Node NODE_PATTERN → PatternClosed names names' → AreNamed f (g ∷ fs) names
     → AreNamed (put g.position (g.children ⊕ made f.head f.children) g) fs names'
 pop_pattern {f = f} {g = g} {fs = fs} {names = names} {names' = names'} e c w =
@@ -159,7 +159,7 @@ pop_pattern {f = f} {g = g} {fs = fs} {names = names} {names' = names'} e c w =
     } in
     grow g.position (made f.head f.children) (λ q. subst (λ h. HasNoEntry (made h f.children)) (sym e) (λ name. refl)) kept
 
--- an entry is complete, and its name is in the set
+-- when an entry closes, and its name is in the set
 pub pop_entry : {f g : Frame} {fs : List Frame} {names names' : Names} {again : Option Fault} → IsEntry f g fs names names' again → AreNamed f (g ∷ fs) names
     → AreNamed (put g.position (g.children ⊕ made f.head f.children) g) fs names'
 pop_entry {f = f} {g = g} {fs = fs} {names' = names'} q w = record {

@@ -1,4 +1,4 @@
--- Tokens that are left stay in order.
+-- The tokens that are left stay in order.
 use Rattle.{std.proofs.Common.{◌≡◌, ◌≤◌, ℕ, List, [], ◌∷◌, ◌++◌, true, false, ap, ◌∙◌, subst, arith}, rnix_kinds.specs.SyntaxKind.is_trivia}
 use Rattle.rnix_grammar.specs.{declared.expected_set.ExpectedSet.{ExpectedSet, TheVariants.End}, AnnotatedForest.{Token, row_of, end_from}, Layout.{items, from_item, from_item_if, tail_of}}
 use Rattle.rnix_grammar.specs.{Layout.remaining_after, UnwantedRun.run_of}
@@ -6,7 +6,7 @@ use Rattle.rnix_proof_lemmas.specs.Machine.{after_item, item_end, end_of, run_re
 use Rattle.rnix_proof_lemmas.proofs.{WithoutTriviaLemmas.run_prefix, LayoutLemmas.{IsFirst, first_item, items-from_item}}
 use Rattle.rnix_reader.{specs.Placed.AreInOrder, proofs.{CursorLemmas.in_order_from, SkippedRuns.run_all}}
 
--- from the first item on tokens are in order
+-- after skipped trivia, tokens are in order
 pub order_from : (n : ℕ) (ts : List Token) → AreInOrder n ts → AreInOrder n (from_item ts)
 order_from n [] o = tt
 order_from n (t ∷ ts) o =
@@ -21,15 +21,15 @@ end_least : (n : ℕ) (ts : List Token) → AreInOrder n ts → n ≤ end_of n t
 end_least n [] o = omega arith
 end_least n (t ∷ ts) o = omega (arith, o.0, o.1)
 
--- after the next item
+-- after the next item, tokens are in order
 pub order_behind : (n : ℕ) (ts : List Token) → AreInOrder n ts → AreInOrder (item_end true n ts) (after_item true ts)
 order_behind n ts o = order_tail n (from_item ts) (order_from n ts o)
 
--- the next item ends no earlier than the last
+-- the next item does not end before the last one
 pub reach_least : (n : ℕ) (ts : List Token) → AreInOrder n ts → n ≤ item_end true n ts
 reach_least n ts o = end_least n (from_item ts) (order_from n ts o)
 
--- after a run of items
+-- the tokens after a run are in order, and the run does not end before it begins
 record Passed (n : ℕ) (run ts : List Token) : Type 0 where
   order : AreInOrder (end_from n run) (remaining_after (row_of run) ts)
   least : n ≤ end_from n run
@@ -42,7 +42,7 @@ passed n (t ∷ run) us ts e o =
     let ih = passed t.end run us (tail_of (from_item ts)) first.remaining (subst (λ x. AreInOrder x (after_item true ts)) ends (order_behind n ts o)) in
     record { order = ih.order; least = omega (arith, ih.least, reach_least n ts o, ends) }
 
--- after a run tokens are in order
+-- this holds after a run of unwanted items
 pub order_run : (until : ExpectedSet) (n : ℕ) (ts : List Token) → AreInOrder n ts
     → AreInOrder (end_from n (run_of until (items ts))) (run_rest true (run_of until (items ts)) ts) × (n ≤ end_from n (run_of until (items ts)))
 order_run until n ts o =
@@ -50,7 +50,7 @@ order_run until n ts o =
     let w = passed n run (dropped run (items ts)) (from_item ts) (items-from_item ts ∙ run_prefix until (items ts)) (order_from n ts o) in
     (w.order, w.least)
 
--- and after all of them
+-- this holds after all items
 pub order_all : (n : ℕ) (ts : List Token) → AreInOrder n ts
     → AreInOrder (end_from n (items ts)) (run_rest true (items ts) ts) × (n ≤ end_from n (items ts))
 order_all n ts o = subst (λ run. AreInOrder (end_from n run) (run_rest true run ts) × (n ≤ end_from n run)) (run_all (items ts)) (order_run End n ts o)

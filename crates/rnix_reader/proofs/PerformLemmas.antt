@@ -1,4 +1,4 @@
--- What each action makes of the frames.
+-- Each action leaves a machine whose tokens are in order, and whose names are in the sets.
 use Rattle.std.proofs.Common.{◌≡◌, ◌≤◌, ℕ, true, false, List, [], ◌∷◌, ◌++◌, Option, Some, refl, ap, sym, ◌∙◌, subst, arith, append-nil}
 use Rattle.{rnix_kinds.specs.declared.kinds.SyntaxKind.{SyntaxKind, TheVariants.{NODE_ERROR, NODE_IDENT, NODE_APPLY}}, rnix_green.specs.Range.Extent}
 use Rattle.rnix_grammar.specs.{declared.{slot_table.TheConstants.APPLIED, position.Position.Position, action.Action.Action}, Fault.Fault, AnnotatedForest.{Token, Note}}
@@ -22,7 +22,7 @@ use Rattle.rnix_reader.proofs.{OpenNames.{instead, pop, pop_pattern, pop_entry},
 use Rattle.rnix_grammar.specs.declared.position.Position.TheVariants as p
 use Rattle.rnix_grammar.specs.declared.action.Action.TheVariants as a
 
--- the first of some items
+-- the first of some tokens, if there is one
 abbrev firsts : List Token → List Token
 firsts [] = []
 firsts (t ∷ ts) = t ∷ []
@@ -44,7 +44,7 @@ closing_pattern f [] ts n es names names' w v e c = absurd (true_is_not_false (s
 closing_pattern f (g ∷ fs) ts n es names names' w v e c =
     goes_open (holder_open g fs (frame_kind f.position) v.fit.2 v.fit.1) (pop_pattern (head_pattern f.head (v.fit.0 ∙ e)) c w) v.order
 
--- and its entry
+-- the entry of a frame that closes
 closing_entry : (f : Frame) (fs : List Frame) (ts : List Token) (n : ℕ) (es : List Fault) (names names' : Names) → AreNamed f fs names
     → IsWell f fs ts n names.second
     → frame_kind f.position ≡ Entry → (again : Option Fault) × EntryClosed again names names' → Goes (entry_closed true f fs ts n es) names'
@@ -53,7 +53,7 @@ closing_entry f (g ∷ fs) ts n es names names' w v e c =
     goes_open (holder_open g fs (frame_kind f.position) v.fit.2 v.fit.1) (pop_entry (entry_there f g fs names names' c.0 v.fit e w c.1) w) v.order
 
 module _ (f : Frame) (fs : List Frame) (ts : List Token) (n : ℕ) (names : Names) (w : AreNamed f fs names) (v : IsWell f fs ts n names.second) where
-  -- a frame without names is complete
+  -- closing a frame without names
   closing : (es : List Fault) → has_no_names (frame_kind f.position) ≡ true → is_root (frame_kind f.position) ≡ false → Goes (closed f fs ts n es) names
   closing es b r = by fs w v.fit
     where
@@ -61,7 +61,7 @@ module _ (f : Frame) (fs : List Frame) (ts : List Token) (n : ℕ) (names : Name
       by [] w st = absurd (true_is_not_false (sym (ap is_root st.1) ∙ r))
       by (g ∷ gs) w st = goes_open (holder_open g gs (frame_kind f.position) st.2 st.1) (pop st b w) v.order
 
-  -- the innermost frame gets some more items
+  -- adding items to the innermost frame
   grows : (after : Position) (g : AnnotatedForest) (run us : List Token) (m : ℕ) (es : List Fault) → HasNoEntry g → tokens_in (without_trivia g) ≡ run
       → m ≡ end_from n run → n ≤ m → AreInOrder m us
       → Goes (machine (put after (with_leading true f.children ts ⊕ g) f ∷ fs) us m es) names
@@ -72,11 +72,11 @@ module _ (f : Frame) (fs : List Frame) (ts : List Token) (n : ℕ) (names : Name
       goes (grow_behind after ts g none w) (range_more names.second n m f.head (with_leading true f.children ts) g run
       (begun_more f.head f.children (trivia_before ts) begun) trivia i r l) o
 
-  -- at a position after an operand an operand is open
+  -- at a position after an operand, an operand is open
   loose : frame_kind f.position ≡ OperandFrame → f.head ≡ Operand
   loose e = head_operand f.head (head_sort f.head f.position fs v.fit ∙ e)
 
-  -- an entry of a pattern begins
+  -- beginning an entry of a pattern
   entry_goes : (after : ℕ) (us : List Token) (es : List Fault) (names' : Names) → items ts ≡ us → is_there (head_kind us) ≡ true
       → ((t : Token) → head_of (items ts) ≡ Some t → EntryNamed t names names') → Goes (perform true (a.Entry after) f fs ts n es) names'
   entry_goes after [] es names' e h does = absurd (true_is_not_false (sym h))
@@ -85,7 +85,7 @@ module _ (f : Frame) (fs : List Frame) (ts : List Token) (n : ℕ) (names : Name
       goes_open refl (push_entry f.depth (one_branch NODE_IDENT (leaf true NODE_IDENT ts)) t name (does t (ap head_of e)) (grow_trivia (p.InRow after) ts w))
       (order_behind n ts v.order)
 
-  -- a second name begins
+  -- beginning a second name
   double_bind_goes : (after : ℕ) (us : List Token) (es : List Fault) (names' : Names) → items ts ≡ us → is_there (head_kind us) ≡ true
       → ((t : Token) → head_of (items ts) ≡ Some t → DoubleBindOpened t.start names names') → Goes (perform true (a.DoubleBind after) f fs ts n es) names'
   double_bind_goes after [] es names' e h does = absurd (true_is_not_false (sym h))
@@ -101,7 +101,7 @@ module _ (f : Frame) (fs : List Frame) (ts : List Token) (n : ℕ) (names : Name
       goes (push_second f.depth trees (t, [], tokens) new.sets new.entries (grow_trivia (p.InRow after) ts w))
       (range, omega (arith, ordered.1, end, new.second)) (order_behind n ts v.order)
 
-  -- each action leaves a machine that continues
+  -- each action
   pub perform_goes : (action : Action) (es : List Fault) (names' : Names) → Allowed f.position (head_kind (items ts)) action → is_finish action ≡ false
       → NamesAfter action (mark_of f fs) (popped (machine (f ∷ fs) ts n es)) names names' → Goes (perform true action f fs ts n es) names'
   unfolding pushed started_at

@@ -1,4 +1,4 @@
--- Forests that grow: what they begin with stays, and what is known of them.
+-- What is known of a forest stays true when it grows.
 use Rattle.std.proofs.Common.{◌≡◌, ◌≤◌, ℕ, Bool, true, false, List, [], ◌∷◌, ◌++◌, Some, refl, ap, sym, ◌∙◌, arith, if◌then◌else◌}
 use Rattle.{std.{proofs.lemmas.Cmp.nat_list_eq_equiv, specs.Str.bytes_eq}, rnix_kinds.specs.declared.kinds.SyntaxKind.{SyntaxKind, TheVariants.NODE_IDENT}}
 use Rattle.{rnix_kinds.specs.declared.kinds.SyntaxKind.TheVariants.{NODE_PATTERN, NODE_PAT_ENTRY}, rnix_green.specs.Range.Extent}
@@ -22,15 +22,15 @@ has_entry-⊕ name (branch NODE_PAT_ENTRY c f) g h = ap (λ x. if is_same_name n
 has_entry-⊕ name (branch k c f) g h = has_entry-⊕ name f g h
 has_entry-⊕ name (fault n c f) g h = has_entry-⊕ name f g h
 
--- trivia hold no entry
+-- trivia contain no entry
 pub no_entry_trivia : (ts : List Token) → HasNoEntry (trivia_before ts)
 no_entry_trivia ts name = ap (has_entry name) (without_trivia-trivia ts)
 
--- nor does an error node
+-- an error node contains no entry
 pub no_entry_fault : (n : Note) (c : AnnotatedForest) → HasNoEntry (one_fault n c)
 no_entry_fault n c name = refl
 
--- nor does a leaf
+-- a leaf contains no entry
 pub no_entry_leaf : (k : SyntaxKind) (ts : List Token) → HasNoEntry (leaf true k ts)
 no_entry_leaf k ts name = ap (has_entry name) (leaf_without_trivia k ts) ∙ by (items ts)
   where
@@ -38,7 +38,7 @@ no_entry_leaf k ts name = ap (has_entry name) (leaf_without_trivia k ts) ∙ by 
     by [] = refl
     by (x ∷ xs) = refl
 
--- one more entry
+-- a disjunction does not depend on its order
 one_more : (a b c : Bool) → (if a then true else (if b then true else c)) ≡ (if b then true else (if a then true else c))
 one_more true true c = refl
 one_more true false c = refl
@@ -56,7 +56,7 @@ has_entry-more name (branch NODE_PAT_ENTRY d f) c =
 has_entry-more name (branch k d f) c = has_entry-more name f c
 has_entry-more name (fault n d f) c = has_entry-more name f c
 
--- the name of an entry stays
+-- an entry with more trees keeps its name
 entry_name-⊕ : (f g : AnnotatedForest) (t : Token) → entry_name f ≡ Some t → entry_name (f ⊕ g) ≡ Some t
 entry_name-⊕ blank g t e = absurd (cc)
 entry_name-⊕ (token k u f) g t e = absurd (cc)
@@ -67,21 +67,21 @@ entry_name-⊕ (fault n c f) g t e = absurd (cc)
 tokens_more : (f g : AnnotatedForest) → tokens_in (without_trivia (f ⊕ g)) ≡ tokens_in (without_trivia f) ++ tokens_in (without_trivia g)
 tokens_more f g = ap tokens_in (without_trivia-⊕ f g) ∙ tokens_in-⊕ (without_trivia f) (without_trivia g)
 
--- a row that is begun stays so
+-- a frame that has begun with its name or token stays so when it grows
 pub begun_more : (h : Head) (f g : AnnotatedForest) → IsBegun h f → IsBegun h (f ⊕ g)
 begun_more (Node NODE_PAT_ENTRY) f g w = (w.0, ap entry_name (without_trivia-⊕ f g) ∙ entry_name-⊕ (without_trivia f) (without_trivia g) w.0 w.1)
 begun_more (Node k) f g w = tt
 begun_more SecondBind f g w = (w.0, w.1 ++ tokens_in (without_trivia g), tokens_more f g ∙ ap (λ x. x ++ tokens_in (without_trivia g)) w.2)
 begun_more Operand f g w = tt
 
--- the name of an entry stays
+-- an entry keeps its name when it grows
 pub name_more : (h : Head) (f g : AnnotatedForest) → IsBegun h f → name_of h (f ⊕ g) ≡ name_of h f
 name_more (Node NODE_PAT_ENTRY) f g w = ap entry_name (without_trivia-⊕ f g) ∙ entry_name-⊕ (without_trivia f) (without_trivia g) w.0 w.1 ∙ sym w.1
 name_more (Node k) f g w = refl
 name_more SecondBind f g w = refl
 name_more Operand f g w = refl
 
--- a forest without more entries has the same names
+-- a forest that grows without entries has the same names
 pub known_more : (h : Head) (f g : AnnotatedForest) (sets : List NameSet) (More : List NameSet → Type 0)
     → (is_pattern (frame_kind_of_head h) ≡ true → HasNoEntry g)
     → AreOpenSetsOn h f sets More → AreOpenSetsOn h (f ⊕ g) sets More
@@ -96,7 +96,7 @@ known_more (Node k) f g sets More q w = w
 known_more SecondBind f g sets More q w = w
 known_more Operand f g sets More q w = w
 
--- an entry is complete: its pattern has one more
+-- a pattern with one more entry has its name too
 pub known_entry : (h : Head) (f c : AnnotatedForest) (t : Token) (below : List NameSet) (s : NameSet) (sets : List NameSet) (More : List NameSet → Type 0)
     → is_pattern (frame_kind_of_head h) ≡ true → entry_name (without_trivia c) ≡ Some t → sets ≡ below ++ s ∷ [] → More below
     → ((other : List ℕ) → has_name other s ≡ (if bytes_eq t.text other then true else has_entry other (without_trivia f)))
@@ -115,7 +115,7 @@ known_entry (Node k) f c t below s sets More q e a m is = absurd (true_is_not_fa
 known_entry SecondBind f c t below s sets More q e a m is = absurd (true_is_not_false (sym q))
 known_entry Operand f c t below s sets More q e a m is = absurd (true_is_not_false (sym q))
 
--- a second name stays where it begins, and ends where the items after it end
+-- a second name keeps its start when it grows, and ends where the items end
 pub range_more : (n m k : ℕ) (h : Head) (f g : AnnotatedForest) (us : List Token) → IsBegun h f → HasRange n m h f → tokens_in (without_trivia g) ≡ us
     → k ≡ end_from m us → m ≤ k → HasRange n k h (f ⊕ g)
 range_more n m k (Node j) f g us w e i r l = tt

@@ -10,12 +10,12 @@ use Rattle.rnix_proof_lemmas.proofs.{LayoutLemmas.{first_item, items-from_item},
 use Rattle.rnix_reader.specs.{FrameSteps.operand_begun, Reported.{error_over, next_run}, Placed.AreInOrder, State.{State, items_remaining, eaten, bumped, skipped}}
 use Rattle.rnix_reader.{specs.State.{started, started_at, ended, pushed}, proofs.{CursorLemmas.in_order_from, StateLemmas.{state_is, first_of, none_remaining}}}
 
--- nothing is skipped
+-- an empty run changes nothing
 pub skipped-none : (s : State) → skipped [] s ≡ s
 unfolding skipped
 skipped-none s = state_is refl (join_empty s.trees) refl refl refl refl
 
--- one item of a run
+-- a run is skipped item by item
 pub skipped-more : (t : Token) (us run : List Token) (s s' : State) → items s.rest ≡ t ∷ us → s' ≡ bumped NODE_ERROR s → skipped (t ∷ run) s ≡ skipped run s'
 unfolding skipped bumped eaten
 skipped-more t us run s s' i e =
@@ -30,27 +30,27 @@ skipped-more t us run s s' i e =
     (ap (λ x. end_from (end_of s.prev_end x) run) (sym here)) refl
     ∙ ap (skipped run) (sym e)
 
--- what is left after an item
+-- skipping an item leaves the items after it
 pub remaining_bumped : (k : SyntaxKind) (t : Token) (us : List Token) (s s' : State) → items s.rest ≡ t ∷ us → s' ≡ bumped k s → items s'.rest ≡ us
 unfolding bumped eaten
 remaining_bumped k t us s s' i e = ap (λ x. items x.rest) e ∙ (first_item t us s.rest i).remaining
 
--- where a run stops and continues
+-- a run is empty exactly if the next item ends it
 pub run_stops : (u : ExpectedSet) (ts : List Token) → stops u (head_kind ts) ≡ true → run_of u ts ≡ []
 run_stops u [] h = refl
 run_stops u (t ∷ ts) h = ap (λ x. if x then [] else t ∷ run_of u ts) h
 
--- a run that nothing stops is all there is
+-- a run that nothing ends contains all items
 pub run_all : (ts : List Token) → run_of End ts ≡ ts
 run_all [] = refl
 run_all (t ∷ ts) = ap (λ x. t ∷ x) (run_all ts)
 
--- where no kind comes next no token is left
+-- if no kind comes next, no token is left
 pub no_items : (ts : List Token) → head_kind ts ≡ None → ts ≡ []
 no_items [] e = refl
 no_items (t ∷ ts) e = absurd (cc)
 
--- one turn of the loop that reads a run
+-- one turn of the loop that skips a run
 pub skip_turn : (u : ExpectedSet) (t : Token) (s s' : State) → head_of (items s.rest) ≡ Some t → is_wanted u t.kind ≡ false → s' ≡ bumped NODE_ERROR s
     → skipped (run_of u (items s'.rest)) s' ≡ skipped (run_of u (items s.rest)) s
 skip_turn u t s s' h off e =
@@ -60,26 +60,26 @@ skip_turn u t s s' h off e =
     ∙ sym (skipped-more t (tail_of (items s.rest)) (run_of u (tail_of (items s.rest))) s s' all e)
     ∙ ap (λ x. skipped x s) (sym (ap (run_of u) all ∙ run_begins u t (tail_of (items s.rest)) off))
 
--- an empty run leaves all as it is
+-- an empty run leaves everything as it is
 pub skip_end : (u : ExpectedSet) (s : State) → stops u (head_kind (items s.rest)) ≡ true → skipped (run_of u (items s.rest)) s ≡ s
 skip_end u s h = ap (λ x. skipped x s) (run_stops u (items s.rest) h) ∙ skipped-none s
 
--- so does one where no item is left
+-- so does a run if no item is left
 pub skip_none : (u : ExpectedSet) (s : State) → head_of (items s.rest) ≡ None → skipped (run_of u (items s.rest)) s ≡ s
 skip_none u s h = ap (λ x. skipped (run_of u x) s) (none_remaining (items s.rest) h) ∙ skipped-none s
 
--- with one item read fewer are left
+-- skipping an item leaves fewer items
 pub shorter : (t : Token) (s s' : State) → head_of (items s.rest) ≡ Some t → s' ≡ bumped NODE_ERROR s → length (items s'.rest) < length (items s.rest)
 shorter t s s' h e =
     let all = first_of (items s.rest) t h in
     omega (arith, ap length all, ap length (remaining_bumped NODE_ERROR t (tail_of (items s.rest)) s s' all e))
 
--- a run as a node reaches as far as its tokens
+-- an error node over a run ends where the run does
 reached_over : (u : ExpectedSet) (s : State) → (error_over u s).prev_end ≡ end_from s.prev_end (run_of u (items s.rest))
 unfolding ended skipped started_at eaten
 reached_over u s = ap (λ x. end_from s.prev_end (run_of u x)) (items-from_item s.rest)
 
--- tokens in order end after their first
+-- the items among tokens in order are in order
 pub in_order_items : (n : ℕ) (ts : List Token) → AreInOrder n ts → AreInOrder n (items ts)
 in_order_items n [] o = tt
 in_order_items n (t ∷ ts) o =
@@ -90,7 +90,7 @@ in_order_items n (t ∷ ts) o =
           (o.0, o.1, ih)
     ]
 
--- a run ends no earlier than it begins
+-- a run does not end before it begins
 pub run_end : (u : ExpectedSet) (n : ℕ) (ts : List Token) → AreInOrder n ts → n ≤ end_from n (run_of u ts)
 run_end u n [] o = omega arith
 run_end u n (t ∷ ts) o = elim (is_wanted u t.kind) as (λ x. n ≤ end_from n (if x then [] else t ∷ run_of u ts)) [
@@ -99,15 +99,15 @@ run_end u n (t ∷ ts) o = elim (is_wanted u t.kind) as (λ x. n ≤ end_from n 
       (arith, o.0, o.1, run_end u t.end ts o.2)
 ]
 
--- an item ends no earlier than it begins
+-- an item does not end before it begins
 pub item_in_order : (s : State) (t : Token) → AreInOrder 0 s.rest → head_of (items_remaining s) ≡ Some t → t.start ≤ t.end
 item_in_order s t o e = (subst (AreInOrder 0) (first_of (items s.rest) t e) (in_order_items 0 s.rest o)).1
 
--- where a run ends, by the first of its items
+-- a run begins with its first item
 run_first : (u : ExpectedSet) (t : Token) (ts : List Token) → head_of ts ≡ Some t → is_wanted u t.kind ≡ false → run_of u ts ≡ t ∷ run_of u (tail_of ts)
 run_first u t ts h off = ap (run_of u) (first_of ts t h) ∙ run_begins u t (tail_of ts) off
 
--- a run reaches at least as far as its first item begins
+-- a run does not end before its first item begins
 pub run_reach : (u : ExpectedSet) (s s' : State) (t : Token) → AreInOrder 0 s.rest → head_of (items_remaining s) ≡ Some t → is_wanted u t.kind ≡ false
     → s' ≡ error_over u s → t.start ≤ s'.prev_end
 run_reach u s s' t o h off e =
@@ -116,7 +116,7 @@ run_reach u s s' t o h off e =
     ap (λ x. x.prev_end) e ∙ reached_over u s ∙ ap (end_from s.prev_end) (run_first u t (items s.rest) h off) in
     omega (arith, inside.1, run_end u t.end (tail_of (items s.rest)) inside.2, is)
 
--- the range of a run is that of its tokens
+-- the range of a run is that of its items
 pub run_extent : (u : ExpectedSet) (s s' : State) (t : Token) (range : Extent) → head_of (items_remaining s) ≡ Some t → is_wanted u t.kind ≡ false
     → s' ≡ error_over u s
     → range ≡ record { start = t.start; end = s'.prev_end } → range ≡ extent_of (next_run u s)
@@ -125,16 +125,16 @@ run_extent u s s' t range h off e r =
     r ∙ ap (λ x. let y : Extent = record { start = t.start; end = x } in y) (ap (λ x. x.prev_end) e ∙ reached_over u s ∙ ap (end_from s.prev_end) first)
     ∙ sym (ap extent_of first)
 
--- what is reported of a token that begins no operand
+-- the error of a token that begins no operand
 pub stray_report : (t : Token) (range : Extent) (wanted : List SyntaxKind) → range ≡ record { start = t.start; end = t.end } → wanted ≡ operand_kinds
     → unwanted t.kind range wanted ≡ report StrayNote (t ∷ [])
 stray_report t range wanted r w = ap (λ x. unwanted t.kind x wanted) r ∙ ap (unwanted t.kind record { start = t.start; end = t.end }) w
 
--- an error node over a run
+-- the reader makes an error node over a run
 pub run_made : (u : ExpectedSet) (s s1 s2 s3 : State) → s1 ≡ started NODE_ERROR s → s2 ≡ skipped (next_run u s1) s1 → s3 ≡ ended s2 → s3 ≡ error_over u s
 run_made u s s1 s2 s3 a b c = c ∙ ap ended (b ∙ ap (λ x. skipped (next_run u x) x) a)
 
--- the items are left where an operand begins
+-- beginning an operand leaves the items as they are
 pub left_operand : (over : Position) (d : ℕ) (s s' : State) → s' ≡ operand_begun over d s → items s'.rest ≡ items s.rest
 unfolding pushed eaten
 left_operand over d s s' e = ap (λ x. items x.rest) e ∙ items-from_item s.rest

@@ -1,4 +1,4 @@
--- Each step of the reader is the machine's.
+-- Each step of the reader is a step of the machine.
 use Rattle.rnix_grammar.specs.declared.slot_table.TheConstants.{APPLIED, PAT_ENTRY, SECOND_BIND}
 use Rattle.std.proofs.{Common.{◌≡◌, ◌≤◌, ◌<◌, nat_le, length, arith, ℕ, true, false, List, [], ◌∷◌, refl, ap, ◌∙◌, subst}, lemmas.Bool.le-leb}
 use Rattle.rnix_kinds.specs.declared.kinds.SyntaxKind.{SyntaxKind, TheVariants.{NODE_ERROR, NODE_ROOT, NODE_IDENT, NODE_PAT_ENTRY, NODE_APPLY}}
@@ -22,7 +22,7 @@ node_open (Node k) n os e = omega arith
 node_open SecondBind n os e = omega arith
 node_open Operand n os e = cc
 
--- an operand may be put into a node from its beginning on
+-- an operand's beginning is still inside the innermost node when more is opened
 inside_head : (h : Head) (k n : ℕ) (os : List OpenNode) → k ≤ n → is_inside n os ≡ true → is_inside n (opened_on h k os) ≡ true
 inside_head Operand k n os l i = i
 inside_head h k n os l i = le-leb k n l
@@ -34,7 +34,7 @@ inside (f ∷ fs) n l =
     inside_head f.head (tree_count (trees_of fs)) n (nodes_of fs) (omega (arith, l, all)) (inside fs n (omega (arith, l, all)))
 
 module _ (f : Frame) (fs : List Frame) (ts : List Token) (n : ℕ) (es : List Fault) (names : Names) (w : IsWell f fs ts n names.second) where
-  -- what the reader holds, whose innermost mark is taken
+  -- the reader's state after it popped the innermost mark
   abbrev popped_state : State
   popped_state = popped (machine (f ∷ fs) ts n es)
 
@@ -54,7 +54,7 @@ module _ (f : Frame) (fs : List Frame) (ts : List Token) (n : ℕ) (es : List Fa
   again : frame_kind f.position ≡ SecondBindFrame → HasRange names.second n SecondBind f.children
   again e = subst (λ x. HasRange names.second n x f.children) (head_second_bind f.head (sort ∙ e)) w.range
 
-  -- what an action needs is there
+  -- the conditions of each allowed action are met
   pub ready : (action : Action) → Allowed f.position (head_kind (items ts)) action → IsReady action (mark_of f fs) popped_state names
   unfolding pushed
   ready a.Close al = is_there (ap is_operand_frame al.0)
@@ -81,7 +81,7 @@ module _ (f : Frame) (fs : List Frame) (ts : List Token) (n : ℕ) (es : List Fa
   unfolding pushed started_at
   wraps k inside over e = rw (head_operand f.head (sort ∙ e), join_empty (trees_of fs)) refl
 
-  -- what the reader holds after an action is what the machine makes of it
+  -- the reader's state after an action is that of the machine after it
   pub performs : (action : Action) (s' : State) (names' : Names) → AreNamed f fs names → Allowed f.position (head_kind (items ts)) action
       → is_finish action ≡ false
       → Performed action (mark_of f fs) popped_state names s' names' → s' ≡ erase (perform true action f fs ts n es)

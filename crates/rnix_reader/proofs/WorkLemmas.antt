@@ -20,7 +20,7 @@ use Rattle.rnix_grammar.specs.declared.action.Action.TheVariants as a
 use Rattle.rnix_grammar.specs.declared.rules.Part.TheVariants as r
 use Rattle.rnix_grammar.specs.declared.operand_start.OperandStart.TheVariants as b
 
--- weights are small
+-- a position's measure is at most 7
 measure_most : (position : Position) → measure position ≤ 7
 measure_most position = leb-true (measure position) 7 (measure_there position).2
 
@@ -53,11 +53,11 @@ start_measure_full (p.InRow i) e = slot_full (slot_at i) (sort_there i)
 abbrev pub positions : List Frame → List Position
 positions fs = map (λ (f : Frame). f.position) fs
 
--- their weights
+-- the sum of their measures
 abbrev measure_of : List Frame → ℕ
 measure_of fs = measures (positions fs)
 
--- what is left to do of a machine
+-- what a machine has left to do
 abbrev pub cost_of : Machine → ℕ
 cost_of m = cost (items m.remaining) (positions m.frames)
 
@@ -73,11 +73,11 @@ positions_marks : (fs : List Frame) → positions_on (marks_of fs) ≡ positions
 positions_marks [] = refl
 positions_marks (f ∷ fs) = positions_last (marks_of fs) (mark_of f fs) ∙ ap (λ xs. f.position ∷ xs) (positions_marks fs)
 
--- the reader has as much to do as the machine
+-- the reader's measure of work is the machine's
 pub work_is : (m : Machine) → work (erase m) ≡ cost_of m
 work_is m = ap (cost (items m.remaining)) (positions_marks m.frames)
 
--- an item is read
+-- reading an item leaves fewer items
 there : (us : List Token) → is_there (head_kind us) ≡ true → suc (length (tail_of us)) ≤ length us
 there [] e = absurd (true_is_not_false (sym e))
 there (t ∷ us) e = omega arith
@@ -92,7 +92,7 @@ remaining_behind ts = ap length (items_behind ts)
 remaining_after_two : (ts : List Token) → length (items (after_item true (after_item true ts))) ≤ length (tail_of (items ts))
 remaining_after_two ts = omega (arith, remaining_behind (after_item true ts), tail_less (items (after_item true ts)), remaining_behind ts)
 
--- a run is skipped
+-- skipping a run leaves at most as many items
 dropped_less : (run us : List Token) → length (dropped run us) ≤ length us
 dropped_less [] us = omega arith
 dropped_less (x ∷ run) us = omega (arith, dropped_less run (tail_of us), tail_less us)
@@ -108,7 +108,7 @@ remaining_run until ts = (run_bared (run_of until (items ts)) ts (dropped (run_o
 remaining_none : (ts : List Token) → items (run_rest true (items ts) ts) ≡ []
 remaining_none ts = (run_bared (items ts) ts (dropped (items ts) (items ts)) (all_prefix (items ts))).remaining ∙ dropped_all (items ts)
 
--- the sums
+-- inequalities for the cases below
 close_less : (us : List Token) (position below : Position) (z : ℕ) → start_measure position ≡ 30
     → 100 * length us + (measure below + z) + start_measure_at us below < 100 * length us + (measure position + (measure below + z)) + start_measure_at us
     position
@@ -125,14 +125,14 @@ next_less : (us : List Token) (position : Position) (after : ℕ) → IsNext pos
 next_less [] position after h e = h.1
 next_less (t ∷ us) position after h e = absurd (cc)
 
--- a node is complete
+-- completing a frame leaves less
 closed_less : (f : Frame) (fs : List Frame) (ts : List Token) (n : ℕ) (es : List Fault) → IsStackedOn f.head f.position fs
     → is_root (frame_kind f.position) ≡ false → start_measure f.position ≡ 30
     → cost_of (closed f fs ts n es) < cost_of (machine (f ∷ fs) ts n es)
 closed_less f [] ts n es w r e = absurd (true_is_not_false (sym (ap is_root w.1) ∙ r))
 closed_less f (g ∷ fs) ts n es w r e = close_less (items ts) f.position g.position (measure_of fs) e
 
--- what an operand leaves is below a number
+-- what an operand leaves is less than a number
 record Below (f : Frame) (fs : List Frame) (us : List Token) (c : ℕ) : Type 0 where
   none : us ≡ [] → measure_of (f ∷ fs) < c
   some : is_there (head_kind us) ≡ true → 100 * length (tail_of us) + 51 + measure_of (f ∷ fs) < c
@@ -142,7 +142,7 @@ below_end f fs [] c h = h.none refl
 below_end f fs (t ∷ us) c h = omega (arith, h.some refl)
 
 module _ (f : Frame) (fs : List Frame) (ts : List Token) (n : ℕ) (es : List Fault) where
-  -- an operand begins
+  -- beginning an operand leaves less
   begun_less : (how : OperandStart) (level d : ℕ) (t : Token) → cost_of (begun true how level d t f fs ts n es) ≤ 100 * length
       (tail_of (items ts)) + 51 + measure_of (f ∷ fs)
   begun_less (b.Leaf k) level d t = omega (arith, remaining_behind ts, start_measure_small (items (after_item true ts)) (p.AfterOperand level 16))
@@ -173,7 +173,7 @@ module _ (f : Frame) (fs : List Frame) (ts : List Token) (n : ℕ) (es : List Fa
       [ true ↦ limited_less c h | false ↦ operand_less level (suc f.depth) (items ts) c refl h ]
   reading_less level false c h = operand_less level f.depth (items ts) c refl h
 
--- a node begins without an item
+-- opening a node without an item leaves less
 start_less : (us : List Token) (position inside after : Position) (z : ℕ) → start_measure inside ≡ 0
     → measure inside + measure after < measure position + start_measure position
     → ((head_kind us ≡ None) → measure inside + measure after < measure position)
@@ -182,14 +182,14 @@ start_less : (us : List Token) (position inside after : Position) (z : ℕ) → 
 start_less [] position inside after z e h k = omega (arith, k refl)
 start_less (t ∷ us) position inside after z e h k = omega (arith, h, e)
 
--- an entry is complete
+-- completing an entry leaves less
 entry_less : (f : Frame) (fs : List Frame) (ts : List Token) (n : ℕ) (es : List Fault) → IsStackedOn f.head f.position fs → frame_kind f.position ≡ Entry
     → cost_of (entry_closed true f fs ts n es) < cost_of (machine (f ∷ fs) ts n es)
 entry_less f [] ts n es w e = absurd (true_is_not_false (sym (ap is_root w.1) ∙ ap is_root e))
 entry_less f (g ∷ fs) ts n es w e = closed_less f (g ∷ fs) ts n es w (ap is_root e) (start_measure_full f.position (ap is_plain e))
 
 module _ (f : Frame) (fs : List Frame) (ts : List Token) (n : ℕ) (es : List Fault) (w : IsStackedOn f.head f.position fs) where
-  -- what is left to do
+  -- what is left before the action
   abbrev before : ℕ
   before = cost_of (machine (f ∷ fs) ts n es)
 

@@ -11,13 +11,13 @@ use Rattle.rnix_proof_reparse.specs.LevelsAround.{between}
 use Rattle.rnix_reparse.specs.OwnBrackets.{HasBrackets}
 use Rattle.rnix_reparse.proofs.ForestsInside.{HasForest, first_leaf, first_node, behind_first, inside_first, behind_node_first, first_text}
 
--- a forest has no trees, or it has elements
+-- a forest is empty or has elements
 none_or_some : (f : Forest) → (f ≡ empty) ⊎ (0 < element_count f)
 none_or_some empty = inl refl
 none_or_some (leaf k t f) = inr (omega arith)
 none_or_some (node k c f) = inr (omega arith)
 
--- the last tree of a forest is a leaf, the element of the number q
+-- the last tree of a forest is a leaf, and its element has the number `q`
 record EndsWithLeaf (t : Tree) (q : ℕ) (f : Forest) : Type 0 where
   before : Forest
   text : List ℕ
@@ -30,7 +30,7 @@ one_more_leaf t q k u f h = record { before = leaf k u h.before; text = h.text; 
 one_more_node : (t : Tree) (q : ℕ) (k : SyntaxKind) (c f : Forest) → EndsWithLeaf t q f → EndsWithLeaf t q (node k c f)
 one_more_node t q k c f h = record { before = node k c h.before; text = h.text; split = ap (node k c) h.split; text_is = h.text_is }
 
--- the elements of a forest are in the tree
+-- the elements of a forest in a tree are elements of the tree
 there : (t : Tree) (n s : ℕ) (p : Option ℕ) (f : Forest) → HasForest t n s p f → n + element_count f ≤ length (items_of t)
 there t n s p f h =
     omega (
@@ -42,7 +42,7 @@ there t n s p f h =
       length-append (items_from n s p f) h.after,
     )
 
--- a token with the parent of its forest is not inside the node that is last in the forest, nor is it that node
+-- if the last tree of a forest is a node, no token with the forest's parent is its last element
 no_node_last : (t : Tree) (m n q s : ℕ) (k : SyntaxKind) (c : Forest) → HasForest t n s (Some m) (node k c empty) → m < n → q ≡ n + element_count c
     → (item t q).is_node ≡ false → (item t q).parent ≡ Some m → {A : Type 0} → A
 no_node_last t m n q s k c h above last token parent =
@@ -61,7 +61,7 @@ no_node_last t m n q s k c h above last token parent =
           absurd (omega (arith, in_node.low))
     ]
 
--- a leaf that is last
+-- this holds for a forest of one leaf
 one_leaf : (t : Tree) (m n q s : ℕ) (k : SyntaxKind) (u : List ℕ) → HasForest t n s (Some m) (leaf k u empty) → q ≡ n → EndsWithLeaf t q (leaf k u empty)
 one_leaf t m n q s k u h e =
     let kind : (item t q).kind ≡ k = ap (λ j. (item t j).kind) e ∙ ap (λ (i : Item). i.kind) (first_leaf t n s (Some m) k u empty h) in
@@ -72,7 +72,7 @@ one_leaf t m n q s k u h e =
       text_is = ap (λ j. text_at record { tree = t; number = j }) e ∙ first_text t n s (Some m) k u empty h;
     }
 
--- the last element of a forest, a token with the parent of the forest, is its last tree
+-- if the last element of a forest is a token with the forest's parent, it is its last tree
 ends_with_leaf : (t : Tree) (m n q s : ℕ) (f : Forest) → HasForest t n s (Some m) f → m < n → q + 1 ≡ n + element_count f → n ≤ q
     → (item t q).is_node ≡ false → (item t q).parent ≡ Some m → EndsWithLeaf t q f
 ends_with_leaf t m n q s empty h above last some token parent = absurd (omega arith)
@@ -92,13 +92,13 @@ ends_with_leaf t m n q s (node k c f) h above last some token parent = elim (non
       (omega arith) token parent)
 ]
 
--- the children of a node are trees between two tokens, and these are the elements of two numbers
+-- the children of a node are trees between two tokens, whose elements have the numbers `first` and `last`
 pub record AreBetween (t : Tree) (first last : ℕ) (c : Forest) : Type 0 where
   pub inside : Forest
   pub is : c ≡ between (item t first).kind (text_at record { tree = t; number = first }) inside (item t last).kind
       (text_at record { tree = t; number = last })
 
--- a leaf before others, the last of which is a leaf
+-- this holds for a leaf before trees of which the last is a leaf
 between_leaves : (t : Tree) (m n q s : ℕ) (k : SyntaxKind) (u : List ℕ) (f : Forest) → HasForest t n s (Some m) (leaf k u f) → EndsWithLeaf t q f
     → AreBetween t n q (leaf k u f)
 between_leaves t m n q s k u f h e =
@@ -112,7 +112,7 @@ between_leaves t m n q s k u f h e =
           ∙ ap (λ v. leaf (item t n).kind v (join e.before (leaf (item t q).kind (text_at record { tree = t; number = q }) empty))) (sym text);
     }
 
--- the children of a node whose first and last elements are tokens of its own
+-- this holds for the children of a node whose first and last elements inside are tokens with this node as their parent
 children_between : (t : Tree) (m q s : ℕ) (c : Forest) → HasForest t (m + 1) s (Some m) c → q ≡ m + element_count c → 2 ≤ element_count c
     → (item t (m + 1)).is_node ≡ false → (item t q).is_node ≡ false → (item t q).parent ≡ Some m → AreBetween t (m + 1) q c
 children_between t m q s empty h last both opening closing parent = absurd (omega arith)
@@ -122,7 +122,7 @@ children_between t m q s (leaf k u f) h last both opening closing parent =
 children_between t m q s (node k c f) h last both opening closing parent =
     absurd (false≢true (sym opening ∙ ap (λ (i : Item). i.is_node) (first_node t (m + 1) s (Some m) k c f h)))
 
--- so it is with a node with brackets that begins a forest
+-- this holds for a node that the code found to have brackets
 pub between_brackets : (t : Tree) (m s : ℕ) (p : Option ℕ) (k : SyntaxKind) (c f : Forest) → HasForest t m s p (node k c f) → HasBrackets t m
     → AreBetween t (m + 1) (m + (item t m).below) c
 between_brackets t m s p k c f h b =

@@ -1,4 +1,4 @@
--- The edited text of a small text, computed.
+-- The edited text of a small text, by computation.
 use Rattle.std.proofs.Common.{◌≡◌, refl}
 use Rattle.std.specs.Prelude.{codes}
 use Rattle.rnix_reparse.specs.EditedRange.{edited}
@@ -7,6 +7,6 @@ use Rattle.rnix_reparse.specs.EditedRange.{edited}
 replaced_name : edited record { start = 2; end = 3 } (codes "b c") (codes "[ a ]") ≡ codes "[ b c ]"
 replaced_name = refl
 
--- an empty range removes nothing
+-- an empty range inserts
 inserted_name : edited record { start = 2; end = 2 } (codes "b ") (codes "[ a ]") ≡ codes "[ b a ]"
 inserted_name = refl

@@ -1,4 +1,4 @@
--- An edit inside a part of a text, and the characters of the parts.
+-- An edit inside a part of a text, and the character boundaries of the parts.
 use Rattle.std.proofs.Common.{◌≡◌, ℕ, ◌+◌, ◌-◌, ◌≤◌, ◌<◌, List, ◌++◌, length, get_or, take, drop, refl, ap, sym, ◌∙◌, subst, arith, append_assoc, length-append, length-drop}
 use Rattle.std.specs.Str.{IsUtf8, IsCharBoundary}
 use Rattle.std.proofs.Math.Seq.{take-add}
@@ -6,13 +6,13 @@ use Rattle.std.proofs.lemmas.List.{take-take, drop-drop, drop-take, take-append-
 use Rattle.std.proofs.lemmas.Str.{IsUtf8-take, IsUtf8-drop, IsCharBoundary-start, IsCharBoundary-from_take}
 use Rattle.rnix_reparse.specs.EditedRange.{edited}
 
--- where a part of a text begins, what is before it and a place in the part are what is before the place
+-- the text before a part, with the beginning of the part, is the text before a position in the part
 front : (t : List ℕ) (s e a : ℕ) → s ≤ a → a ≤ e → take s t ++ take (a - s) (take (e - s) (drop s t)) ≡ take a t
 front t s e a low high =
     let sum : s + (a - s) ≡ a = omega arith in
     ap (λ x. take s t ++ x) (take-take (a - s) (e - s) (drop s t) (omega arith)) ∙ sym (take-add s (a - s) t) ∙ ap (λ n. take n t) sum
 
--- what is behind a place in the part, and what is behind the part, are what is behind the place
+-- the end of the part, with the text after it, is the text after a position in the part
 back : (t : List ℕ) (s e b : ℕ) → s ≤ b → b ≤ e → drop (b - s) (take (e - s) (drop s t)) ++ drop e t ≡ drop b t
 back t s e b low high =
     let whole : e - s ≡ (b - s) + (e - b) = omega arith in
@@ -23,7 +23,7 @@ back t s e b low high =
     ∙ ap (λ x. take (e - b) (drop b t) ++ x) (ap (λ n. drop n t) (sym end) ∙ sym (drop-drop (e - b) b t))
     ∙ take-append-drop (e - b) (drop b t)
 
--- an edit inside a part of a text is an edit of the text
+-- an edit inside a part of a text, with the text around the part, is an edit of the text
 pub edited_inside : (t r : List ℕ) (s e a b : ℕ) → s ≤ a → a ≤ b → b ≤ e
     → take s t ++ (edited record { start = a - s; end = b - s } r (take (e - s) (drop s t)) ++ drop e t) ≡ edited record { start = a; end = b } r t
 edited_inside t r s e a b low ordered high =
@@ -35,7 +35,7 @@ edited_inside t r s e a b low ordered high =
     ∙ ap (λ z. z ++ (r ++ (y ++ drop e t))) (front t s e a low (omega arith))
     ∙ ap (λ z. take a t ++ (r ++ z)) (back t s e b (omega arith) high)
 
--- a place between characters of a text is one of a part
+-- a character boundary of a text, inside a part, is one of the part
 pub boundary_inside : (t : List ℕ) (s e a : ℕ) → s ≤ a → a ≤ e → e ≤ length t → IsCharBoundary t a → IsCharBoundary (take (e - s) (drop s t)) (a - s)
 boundary_inside t s e a low high within h =
     let size : length (take (e - s) (drop s t)) ≡ e - s = length-take-le (e - s) (drop s t) (omega (arith, length-drop s t)) in
@@ -47,12 +47,12 @@ boundary_inside t s e a low high within h =
           subst (λ n. 192 ≤ n) (sym read) (h.1 (omega arith) (subst (λ n. 128 ≤ n) read cont)),
     )
 
--- the characters of a text before a part and behind it
+-- the texts before and after a part are UTF-8
 pub record AreApart (left right : List ℕ) : Type 0 where
   pub before : IsUtf8 left
   pub after : IsUtf8 right
 
--- where the part has characters, so have what is before it and what is behind it
+-- so they are if the text and the part are
 pub characters_apart : (before part after : List ℕ) → IsUtf8 (before ++ (part ++ after)) → IsUtf8 part → 0 < length part → AreApart before after
 characters_apart before part after whole middle some =
     let t = before ++ (part ++ after) in

@@ -8,7 +8,7 @@ use Rattle.rnix_green.specs.Tree.{Tree, Item, items_from, items_of, forest_of, n
 use Rattle.rnix_green.proofs.PieceLemmas.{length-items_from}
 use Rattle.rnix_green.specs.Context.{Context, here, behind_leaf, behind_node, inside, filled, text_before, elements_before}
 
--- a forest is in a tree; the number of its first element, where that starts, and its parent are given
+-- a forest is in a tree, from number `n` and offset `s` on, with parent `p`
 pub record HasForest (t : Tree) (n s : ℕ) (p : Option ℕ) (f : Forest) : Type 0 where
   pub before : List Item
   pub after : List Item
@@ -19,7 +19,7 @@ pub record HasForest (t : Tree) (n s : ℕ) (p : Option ℕ) (f : Forest) : Type
   pub text : text_of (forest_of t) ≡ text_before ++ (text_of f ++ text_after)
   pub start : length text_before ≡ s
 
--- a tree as a forest
+-- the whole tree is a forest in itself
 pub whole_forest : (t : Tree) → HasForest t 0 0 None (forest_of t)
 whole_forest t = record {
   before = [];
@@ -32,7 +32,7 @@ whole_forest t = record {
   start = refl;
 }
 
--- an element of a forest
+-- the item of an element of the forest
 pub forest_item : (t : Tree) (n s : ℕ) (p : Option ℕ) (f : Forest) (i : ℕ) → HasForest t n s p f → i < element_count f
     → item t (n + i) ≡ get_or (items_from n s p f) i no_item
 forest_item t n s p f i h l =
@@ -43,7 +43,7 @@ forest_item t n s p f i h l =
     ∙ ap (λ j. get_or (items_from n s p f ++ h.after) j no_item) place
     ∙ get_or_append_left (items_from n s p f) h.after no_item i (omega arith)
 
--- the first element of a forest
+-- the item of the first tree, a leaf
 pub first_leaf : (t : Tree) (n s : ℕ) (p : Option ℕ) (k : SyntaxKind) (u : List ℕ) (f : Forest) → HasForest t n s p (leaf k u f)
     → item t n ≡ record { kind = k; is_node = false; start = s; end = s + length u; parent = p; below = 0 }
 first_leaf t n s p k u f h =
@@ -56,7 +56,7 @@ first_node t n s p k c f h =
     let same : n + 0 ≡ n = omega arith in
     ap (item t) (sym same) ∙ forest_item t n s p (node k c f) 0 h (omega arith)
 
--- the forest behind a leaf
+-- the trees after a leaf are in the tree
 pub behind_first : (t : Tree) (n s : ℕ) (p : Option ℕ) (k : SyntaxKind) (u : List ℕ) (f : Forest) → HasForest t n s p (leaf k u f)
     → HasForest t (n + 1) (s + length u) p f
 behind_first t n s p k u f h =
@@ -73,7 +73,7 @@ behind_first t n s p k u f h =
       start = omega (arith, h.start, length-append h.text_before u);
     }
 
--- the forest inside a node
+-- the children of a node are in the tree
 pub inside_first : (t : Tree) (n s : ℕ) (p : Option ℕ) (k : SyntaxKind) (c f : Forest) → HasForest t n s p (node k c f) → HasForest t (n + 1) s (Some n) c
 inside_first t n s p k c f h =
     let i : Item = record { kind = k; is_node = true; start = s; end = s + length (text_of c); parent = p; below = element_count c } in
@@ -90,7 +90,7 @@ inside_first t n s p k c f h =
       start = h.start;
     }
 
--- the forest behind a node
+-- the trees after a node are in the tree
 pub behind_node_first : (t : Tree) (n s : ℕ) (p : Option ℕ) (k : SyntaxKind) (c f : Forest) → HasForest t n s p (node k c f)
     → HasForest t (n + 1 + element_count c) (s + length (text_of c)) p f
 behind_node_first t n s p k c f h =
@@ -110,14 +110,14 @@ behind_node_first t n s p k c f h =
       start = omega (arith, h.start, length-append h.text_before (text_of c));
     }
 
--- the text between two others
+-- the text between two others is a slice of the whole text
 text_between : (whole before part after : List ℕ) (s e : ℕ) → whole ≡ before ++ (part ++ after) → length before ≡ s → e ≡ s + length part
     → take (e - s) (drop s whole) ≡ part
 text_between whole before part after s e split start end =
     let size : e - s ≡ length part = omega arith in
     ap (λ w. take (e - s) (drop s w)) split ∙ ap (take (e - s)) (drop_at before (part ++ after) s start) ∙ take_at part after (e - s) (sym size)
 
--- the text of the first leaf of a forest
+-- the text of the first tree, a leaf
 pub first_text : (t : Tree) (n s : ℕ) (p : Option ℕ) (k : SyntaxKind) (u : List ℕ) (f : Forest) → HasForest t n s p (leaf k u f)
     → text_at record { tree = t; number = n } ≡ u
 first_text t n s p k u f h =
@@ -125,25 +125,25 @@ first_text t n s p k u f h =
     ∙ text_between (text_of (forest_of t)) h.text_before u (text_of f ++ h.text_after) s (s + length u)
     (h.text ∙ ap (λ x. h.text_before ++ x) (append_assoc u (text_of f) h.text_after)) h.start refl
 
--- the trees behind the node of a context, in its forest
+-- the trees after the node of a context, with the same parent
 abbrev pub trees_behind : Context → Forest
 trees_behind (here f) = f
 trees_behind (behind_leaf j t x) = trees_behind x
 trees_behind (behind_node j d x) = trees_behind x
 trees_behind (inside j x f) = trees_behind x
 
--- its parent, in a forest of which the number of the first element and the parent are given
+-- the node's parent, in a forest whose first element has the number and the parent that are given
 abbrev pub parent_in : ℕ → Option ℕ → Context → Option ℕ
 parent_in n p (here f) = p
 parent_in n p (behind_leaf j t x) = parent_in (n + 1) p x
 parent_in n p (behind_node j d x) = parent_in (n + 1 + element_count d) p x
 parent_in n p (inside j x f) = parent_in (n + 1) (Some n) x
 
--- a forest from another number on
+-- the same forest with equal numbers
 moved_forest : (t : Tree) (n m s r : ℕ) (p : Option ℕ) (f : Forest) → n ≡ m → s ≡ r → HasForest t n s p f → HasForest t m r p f
 moved_forest t n m s r p f e d h = subst (λ i. HasForest t i r p f) e (subst (λ i. HasForest t n i p f) d h)
 
--- the node of a context is in the tree
+-- the node of a context, and the trees after it, are in the tree
 pub filled_forest : (t : Tree) (n s : ℕ) (p : Option ℕ) (x : Context) (k : SyntaxKind) (c : Forest) → HasForest t n s p (filled x k c)
     → HasForest t (n + elements_before x) (s + length (text_before x)) (parent_in n p x) (node k c (trees_behind x))
 filled_forest t n s p (here f) k c h = moved_forest t n (n + 0) s (s + 0) p (node k c f) (omega arith) (omega arith) h

@@ -1,4 +1,4 @@
--- What counts as nesting is no deeper than elements are.
+-- Expressions that count nest no deeper than elements do.
 use Rattle.std.proofs.Common.{ℕ, suc, ◌≤◌, max, Bool, true, false, List, arith, if◌then◌else◌}
 use Rattle.rnix_kinds.specs.declared.kinds.SyntaxKind.{SyntaxKind}
 use Rattle.rnix_kinds.specs.declared.kinds.SyntaxKind.TheVariants.{NODE_PAT_ENTRY}
@@ -21,20 +21,20 @@ no_more false n m = omega arith
 bounded : (n m l : ℕ) → n ≤ m → max n l ≤ max (suc m) l
 bounded n m l h = omega (arith, h)
 
--- what is behind the first node of a forest
+-- the trees after the first node nest no deeper than all trees
 nest_behind : (p k : SyntaxKind) (c f : Forest) → nest p f ≤ nest p (node k c f)
 nest_behind p NODE_PAT_ENTRY (node j d e) f = at_least (nest NODE_PAT_ENTRY e) (nest p f)
 nest_behind p NODE_PAT_ENTRY c f = at_least (if nests p NODE_PAT_ENTRY then suc (nest NODE_PAT_ENTRY c) else nest NODE_PAT_ENTRY c) (nest p f)
 nest_behind p k c f = at_least (if nests p k then suc (nest k c) else nest k c) (nest p f)
 
--- a forest that begins with a node
+-- how deep a forest nests that begins with a node
 nest_first : (p k : SyntaxKind) (c f : Forest) → nest p (node k c f) ≤ max (suc (nest k c)) (nest p f)
 nest_first p NODE_PAT_ENTRY (node j d e) f =
     bounded (nest NODE_PAT_ENTRY e) (nest NODE_PAT_ENTRY (node j d e)) (nest p f) (nest_behind NODE_PAT_ENTRY j d e)
 nest_first p NODE_PAT_ENTRY c f = no_more (nests p NODE_PAT_ENTRY) (nest NODE_PAT_ENTRY c) (nest p f)
 nest_first p k c f = no_more (nests p k) (nest k c) (nest p f)
 
--- a forest nests no deeper than elements are inside one another
+-- the expressions of a forest that count nest no deeper than its elements
 nest_height : (p : SyntaxKind) (f : Forest) → nest p f ≤ height f
 nest_height p empty = omega arith
 nest_height p (leaf k t f) = (let rest = nest_height p f in omega (arith, rest))
@@ -48,13 +48,13 @@ leaf_height : (w : Bool) (k : SyntaxKind) (t : List ℕ) (g f : Forest) → heig
 leaf_height true k t g f h = omega (arith, h)
 leaf_height false k t g f h = omega (arith, h)
 
--- without trivia no more elements are inside one another
+-- without trivia, elements nest no deeper
 height_significant : (f : Forest) → height (significant f) ≤ height f
 height_significant empty = omega arith
 height_significant (leaf k t f) = leaf_height (is_trivia k) k t (significant f) f (height_significant f)
 height_significant (node k c f) = (let inner = height_significant c in let rest = height_significant f in omega (arith, inner, rest))
 
--- so what is inside a node nests no deeper than that either
+-- so the children of a node, without trivia, nest no deeper than its elements
 pub nest_within : (k : SyntaxKind) (c : Forest) → nest k (significant c) ≤ height c
 nest_within k c = (let a = nest_height k (significant c) in let b = height_significant c in omega (arith, a, b))
 
@@ -66,7 +66,7 @@ one_at_most : (w : Bool) → (if w then 1 else 0) ≤ 1
 one_at_most true = omega arith
 one_at_most false = omega arith
 
--- no more levels are around what is inside a node than nodes are around it, and one
+-- there are at most as many levels around the inside of a node as nodes around it, plus one
 pub few_levels : (p k : SyntaxKind) (x : Context) → levels_around p k x ≤ suc (nodes_around x)
 few_levels p k (here f) = one_at_most (nests p k)
 few_levels p k (behind_leaf j t x) = few_levels p k x

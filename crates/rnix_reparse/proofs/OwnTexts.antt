@@ -12,17 +12,17 @@ use Rattle.rnix_grammar.specs.Parsed.{IsParsed}
 use Rattle.rnix_parser.proofs.OneReading.{reading_text}
 use Rattle.rnix_reparse.specs.EditedRange.{edited, IsRangeOf}
 
--- the text of what a text was read as is that text
+-- the text of the tree of a text is that text
 pub own_text : (text : List ℕ) (tree : Tree) (faults : List Fault) → IsUtf8 text → IsParsed (tokens_of text) tree faults → text_of (forest_of tree) ≡ text
 own_text text tree faults characters h =
     append-nil (text_of tree.children) ∙ reading_text (tokens_of text) tree faults h.reading ∙ (AreSound-tokens_under [] text characters).joined
 
--- so it is a parse of its own text
+-- so the tree is the parse of its own text
 pub parsed_text : (text : List ℕ) (tree : Tree) (faults : List Fault) → IsUtf8 text → IsParsed (tokens_of text) tree faults
     → IsParsed (tokens_of (text_of (forest_of tree))) tree faults
 parsed_text text tree faults characters h = subst (λ t. IsParsed (tokens_of t) tree faults) (sym (own_text text tree faults characters h)) h
 
--- an edit between characters leaves characters
+-- an edit at character boundaries leaves UTF-8
 pub edited_characters : (range : Extent) (new text : List ℕ) → IsRangeOf text range → IsUtf8 text → IsUtf8 new → IsUtf8 (edited range new text)
 edited_characters range new text h characters own =
     IsUtf8-append (take range.start text) (new ++ drop range.end text) (IsUtf8-take text range.start characters h.start)

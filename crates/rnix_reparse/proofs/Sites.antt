@@ -1,4 +1,4 @@
--- A node with brackets in a tree below a root.
+-- A node with brackets below the root of a tree.
 use Rattle.std.proofs.Common.{◌≡◌, ℕ, suc, ◌+◌, List, length, Option, Some, None, refl, ap, sym, ◌∙◌, subst, arith}
 use Rattle.rnix_kinds.specs.declared.kinds.SyntaxKind.{SyntaxKind}
 use Rattle.rnix_kinds.specs.declared.kinds.SyntaxKind.TheVariants.{NODE_ROOT}
@@ -21,32 +21,32 @@ kind_of empty = NODE_ROOT
 kind_of (leaf k t f) = k
 kind_of (node k c f) = k
 
--- the trees inside the first
+-- the children of the first tree
 abbrev inside_of : Forest → Forest
 inside_of empty = empty
 inside_of (leaf k t f) = empty
 inside_of (node k c f) = c
 
--- the trees behind the first
+-- the trees after the first one
 abbrev rest_of : Forest → Forest
 rest_of empty = empty
 rest_of (leaf k t f) = f
 rest_of (node k c f) = f
 
--- a tree with a node in it has elements
+-- a context with a node is not empty
 some_trees : (x : Context) (k : SyntaxKind) (c : Forest) → empty ≡ filled x k c → {A : Type 0} → A
 some_trees (here f) k c e = absurd (cc)
 some_trees (behind_leaf j t x) k c e = absurd (cc)
 some_trees (behind_node j d x) k c e = absurd (cc)
 some_trees (inside j x f) k c e = absurd (cc)
 
--- the node is below the root
+-- the node of a context is below the root
 record IsBelowRoot (t : Tree) (place : Context) (k : SyntaxKind) (c : Forest) : Type 0 where
   around : Context
   is : place ≡ inside t.kind around empty
   children : t.children ≡ filled around k c
 
--- a node of another kind than the root is below it
+-- this holds if it has another kind than the root
 below_root : (t : Tree) (place : Context) (k : SyntaxKind) (c : Forest) → forest_of t ≡ filled place k c → (k ≡ t.kind → ⊥) → IsBelowRoot t place k c
 below_root t (here f) k c e other = absurd (other (sym (ap kind_of e)))
 below_root t (behind_leaf j u x) k c e other = absurd (cc)
@@ -57,27 +57,27 @@ below_root t (inside j x f) k c e other = record {
   children = ap inside_of e;
 }
 
--- a node with brackets is no root
+-- a node with brackets is not the root
 no_root : {k l r : SyntaxKind} → IsBracketed k l r → k ≡ NODE_ROOT → ⊥
 no_root set e = cc
 no_root list e = cc
 no_root paren e = cc
 no_root string e = cc
 
--- the brackets of a kind are those of the kind
+-- a kind has only one pair of brackets
 pub same_brackets : {k l r m s : SyntaxKind} → IsBracketed k l r → IsBracketed k m s → (l ≡ m) × (r ≡ s)
 same_brackets set set = (refl, refl)
 same_brackets list list = (refl, refl)
 same_brackets paren paren = (refl, refl)
 same_brackets string string = (refl, refl)
 
--- the children that a node has between the elements of two numbers
+-- the children of a node between its first and its last one
 abbrev pub enclosed : Tree → ℕ → Forest → Forest
 enclosed t n inner =
     between (item t (n + 1)).kind (text_at record { tree = t; number = n + 1 }) inner (item t (n + (item t n).below)).kind
     (text_at record { tree = t; number = n + (item t n).below })
 
--- where a node with brackets is below a root
+-- the place of a node with brackets below the root: its context, its brackets, and what is between them
 pub record IsSite (t : Tree) (n : ℕ) : Type 0 where
   pub place : Context
   pub inner : Forest
@@ -85,7 +85,7 @@ pub record IsSite (t : Tree) (n : ℕ) : Type 0 where
   pub whole : forest_of t ≡ filled (inside NODE_ROOT place empty) (item t n).kind (enclosed t n inner)
   pub number : suc (elements_before place) ≡ n
 
--- the children of a node with brackets at a place
+-- the children of such a node are its brackets and what is between them
 inner_of : (t : Tree) (n : ℕ) (place : Context) (k : SyntaxKind) (c : Forest) → forest_of t ≡ filled place k c → elements_before place ≡ n → HasBrackets t n
     → AreBetween t (n + 1) (n + (item t n).below) c
 inner_of t n place k c e number h =
@@ -114,12 +114,12 @@ site t n root h =
       number = sym (ap elements_before place_is) ∙ x.number;
     }
 
--- the only child of a root, with the brackets of a node of another tree
+-- the only child of a root has the same brackets as a node of another tree
 pub record IsNewNode (t : Tree) (n : ℕ) (u : Tree) : Type 0 where
   pub edited : Forest
   pub is : u.children ≡ node (item t n).kind (enclosed t n edited) empty
 
--- the children of a node between the same tokens
+-- two lists of children with the same brackets differ only between them
 same_enclosed : (l m r q : SyntaxKind) (s a v b : List ℕ) (f : Forest) → l ≡ m → r ≡ q → s ≡ a → v ≡ b → between m a f q b ≡ between l s f r v
 same_enclosed l m r q s a v b f e1 e2 e3 e4 = λ i. between (sym e1 i) (sym e3 i) f (sym e2 i) (sym e4 i)
 
@@ -141,7 +141,7 @@ new_node t n u h =
           ∙ ap (λ f. node (item t n).kind f empty) (inner.is ∙ same_enclosed _ _ _ _ _ _ _ _ inner.inside brackets.0 brackets.1 h.opening h.closing);
     }
 
--- the tree with the new node in place of the old one
+-- the tree in which the new node replaces the old one, as a context with that node
 pub spliced_tree : (t u v : Tree) (n : ℕ) (s : IsSite t n) (m : IsNewNode t n u) → IsSpliced t n u v
     → v ≡ rooted (filled s.place (item t n).kind (enclosed t n m.edited))
 spliced_tree t u v n s m h =

@@ -1,4 +1,4 @@
--- The tree with a new node in place of an old one is the reading of the edited text.
+-- The tree with the new node in place of the old one is the reading of the edited text.
 use Rattle.std.proofs.Common.{◌≡◌, ℕ, suc, ◌+◌, ◌-◌, ◌≤◌, ◌<◌, max, List, [], ◌++◌, length, take, drop, refl, ap, sym, ◌∙◌, subst, arith, append_assoc, length-append}
 use Rattle.std.specs.Str.{IsUtf8}
 use Rattle.std.proofs.lemmas.Str.{IsUtf8-nil, IsUtf8-append}
@@ -31,11 +31,11 @@ use Rattle.rnix_reparse.proofs.EditedTexts.{characters_apart}
 use Rattle.rnix_reparse.proofs.Heights.{nest_within, few_levels}
 use Rattle.rnix_reparse.proofs.Sites.{IsSite, site, IsNewNode, new_node, enclosed, spliced_tree}
 
--- the tree of a reading has a root
+-- the root of a reading is a NODE_ROOT
 pub root_kind : (ls : List Lexeme) (t : Tree) (es : List Fault) → IsReading ls t es → t.kind ≡ NODE_ROOT
 root_kind ls t es r = ap (λ (z : Tree). z.kind) r.tree_is
 
--- the text before a node, its text, and the text behind it are those of the tree
+-- the text is the text before the node, the node's, and the text after it
 record IsCutAt (t : Tree) (n : ℕ) (before old after : List ℕ) : Type 0 where
   text : text_of (forest_of t) ≡ before ++ (old ++ after)
   start : (item t n).start ≡ length before
@@ -51,7 +51,7 @@ cut_at_site t n s =
       end = h.end;
     }
 
--- the new node nests no deeper than may be
+-- the new node nests within the limit there
 shallow : (t u : Tree) (n : ℕ) (s : IsSite t n) (m : IsNewNode t n u) → FitsAt t n u
     → levels_around NODE_ROOT (item t n).kind s.place + nest (item t n).kind (significant (enclosed t n m.edited)) ≤ depth_limit
 shallow t u n s m h =
@@ -70,7 +70,7 @@ shallow t u n s m h =
         → levels ≤ suc around → depth + tall ≤ limit → levels + nested ≤ limit
     room levels depth nested inner tall limit e f g h i = omega (arith, e, f, g, h, i)
 
--- the edited text is read as the tree with the new node
+-- the reading of the edited text is the tree with the new node
 reads_spliced : (t u v : Tree) (n : ℕ) (before old after new : List ℕ) (s : IsSite t n) (m : IsNewNode t n u) → HasBrackets t n → FitsAt t n u
     → text_before s.place ≡ before → text_of (enclosed t n s.inner) ≡ old
     → IsReading (tokens_of (before ++ (old ++ after))) t [] → IsReading (tokens_of new) u [] → IsSpliced t n u v
@@ -100,7 +100,7 @@ reads_spliced t u v n before old after new s m h fits start extent reading alone
     subst (λ z. IsReading (tokens_of (before ++ (new ++ after))) z []) tree
     (subst (λ z. IsReading (tokens_of (before ++ (new ++ after))) read.0 z) same.1 read.1.1)
 
--- all that is promised of the edited text holds of the tree with the new node
+-- everything that is promised of the edited text's parse holds of the tree with the new node
 pub parsed_spliced : (t u v : Tree) (n : ℕ) (text old new : List ℕ) → text ≡ text_of (forest_of t)
     → old ≡ take ((item t n).end - (item t n).start) (drop (item t n).start text)
     → IsUtf8 text → IsUtf8 old → IsUtf8 new → 0 < length old

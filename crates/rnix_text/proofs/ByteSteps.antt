@@ -1,10 +1,10 @@
--- Where single bytes lead.
+-- How single bytes change a position.
 use Rattle.std.proofs.Common.{◌≡◌, ℕ, suc, ◌+◌, ◌*◌, ◌≤◌, ◌==◌, not, List, [], ◌∷◌, length, fold, Bool, true, false, refl, ap, ◌∙◌, arith}
 use Rattle.std.{proofs.lemmas.Bool.{eqb-true, not-true, and_parts, Decides.nat_tests}, specs.Prelude.if◌then◌else◌}
 use Rattle.rnix_text.specs.{declared.line_column.{ColumnUnit.{ColumnUnit, TheVariants.{Bytes, Chars, Utf16}}, Position.Position, Mark.Mark}, Positions.newline}
 use Rattle.rnix_text.specs.{Positions.{weight, step}, Marks.{is_plain, is_up_to}}
 
--- a position is another one or in front of it
+-- a position is at another one, or before it
 pub record IsUpTo (p q : Position) : Type 0 where
   pub line : p.line ≤ q.line
   pub column : p.line ≡ q.line → p.column ≤ q.column
@@ -19,19 +19,19 @@ is_up_to_from q m h =
     let column = h.column in
     grind (arith, nat_tests)
 
--- a byte adds at most two
+-- a byte adds at most two columns
 pub weight_small : (unit : ColumnUnit) (b : ℕ) → weight unit b ≤ 2
 weight_small Bytes b = omega arith
 weight_small Chars b = grind (arith, nat_tests)
 weight_small Utf16 b = grind (arith, nat_tests)
 
--- and the first byte of a character at least one
+-- the first byte of a character adds at least one
 pub weight_first : (unit : ColumnUnit) (b : ℕ) → (128 ≤ b → 192 ≤ b) → 1 ≤ weight unit b
 weight_first Bytes b h = omega arith
 weight_first Chars b h = grind (arith, nat_tests)
 weight_first Utf16 b h = grind (arith, nat_tests)
 
--- the column of a byte that moves it as far as the offset
+-- the position after a byte that adds one column
 pub plain_step : (unit : ColumnUnit) (p : Position) (b : ℕ) → is_plain unit b ≡ true → step unit p b ≡ record { line = p.line; column = p.column + 1 }
 plain_step unit p b h =
     let parts = and_parts (not (b == newline)) (weight unit b == 1) h in
@@ -39,7 +39,7 @@ plain_step unit p b h =
     (not-true (b == newline) parts.0)
     ∙ ap (λ w. let q : Position = record { line = p.line; column = p.column + w } in q) (eqb-true (weight unit b) 1 parts.1)
 
--- a byte leads on
+-- a byte does not decrease a position
 pub step_up : (unit : ColumnUnit) (p : Position) (b : ℕ) → IsUpTo p (step unit p b)
 step_up unit p b = newline_cases (b == newline)
   where
@@ -56,12 +56,12 @@ up_trans p q r a b = record {
 pub up_same : (p : Position) → IsUpTo p p
 up_same p = record { line = omega arith; column = λ e. omega arith }
 
--- bytes lead on
+-- neither do several bytes
 pub fold_up : (unit : ColumnUnit) (bs : List ℕ) (p : Position) → IsUpTo p (fold (step unit) p bs)
 fold_up unit [] p = up_same p
 fold_up unit (b ∷ bs) p = up_trans p (step unit p b) _ (step_up unit p b) (fold_up unit bs (step unit p b))
 
--- the first byte of a character, or a newline, leads past the position
+-- the first byte of a character, and a newline, increase a position
 pub first_passes : (unit : ColumnUnit) (p : Position) (b : ℕ) → (128 ≤ b → 192 ≤ b) → IsUpTo (step unit p b) p → ⊥
 first_passes unit p b h = newline_cases (b == newline)
   where

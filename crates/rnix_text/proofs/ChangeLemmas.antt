@@ -1,4 +1,4 @@
--- Changes in order: what is around a place among them, and another one that is put there.
+-- Changes in order: the changes around a position, and adding another one there.
 use Rattle.std.proofs.Common.{◌≡◌, ℕ, zero, suc, ◌≤◌, ◌<◌, List, [], ◌∷◌, ◌++◌, length, map, get_or, true, false, refl, ap, sym, subst, arith}
 use Rattle.std.{proofs.lemmas.{Bool.Decides.nat_tests, List.map-append}, specs.List.{All, insert, Sorted.IsPartitionedBy}}
 use Rattle.rnix_text.specs.{Runs.{ends_by, end_of}, declared.edits.Edit.Edit, Edit.change_of, Changes.{Change, AreAscending, AreInOrder, IsBetween, Overlaps, IsAdded, HasOverlap, changed_from}}
@@ -10,7 +10,7 @@ cons_all : {X : Type 0} (P : X → Type 0) (x : X) (xs : List X) → P x → All
 cons_all P x xs h hs zero d l = h
 cons_all P x xs h hs (suc k) d l = hs k d (omega (arith, l))
 
--- changes in order ascend
+-- changes in order are ascending
 pub ascending : (text : List ℕ) (n : ℕ) (cs : List Change) → AreInOrder text n cs → AreAscending n cs
 ascending text n [] h = tt
 ascending text n (c ∷ cs) h = (h.0, h.1, ascending text c.end cs h.3)
@@ -42,12 +42,12 @@ ends_by_false start e h = grind (arith, nat_tests)
 does_end_by : (start : ℕ) (e : Edit) → e.end ≤ start → ends_by start e ≡ true
 does_end_by start e h = grind (arith, nat_tests)
 
--- edits are parted by where they end
+-- edits are partitioned by whether they end before an offset
 pub parted : (start : ℕ) (es : List Edit) → AreAscending 0 (map change_of es) → IsPartitionedBy (ends_by start) es
 parted start es h i j d le l up =
     does_end_by start (get_or es i d) (omega (arith, ends_ascend 0 es h i j d le l, ends_by_true start (get_or es j d) up))
 
--- an edit that overlaps the range is met
+-- an edit that overlaps the range is found
 pub overlap : (start end : ℕ) (es : List Edit) (at : ℕ) (d : Edit) → at < length es → Overlaps start end (change_of (get_or es at d))
     → HasOverlap start end (map change_of es)
 overlap start end [] at d l o = absurd (omega (arith, l))
@@ -109,7 +109,7 @@ kept text n c [] (x ∷ xs) h low o high b before after = (low, o, b, ((after 0 
 kept text n c (f ∷ fs) back h low o high b before after =
     (h.0, h.1, h.2, kept text f.end c fs back h.3 (before 0 f (omega arith)) o high b (λ k d l. before (suc k) d (omega (arith, l))) after)
 
--- and then they are in order
+-- then the changes are in order
 pub added_in_order : (text : List ℕ) (c : Change) (old new : List Change) → AreInOrder text 0 old → c.start ≤ c.end → c.end ≤ length text
     → IsBetween text c.start c.end
     → IsAdded c old new → AreInOrder text 0 new
@@ -120,13 +120,13 @@ in_order_low : (text : List ℕ) (n : ℕ) (cs : List Change) → AreInOrder tex
 in_order_low text n [] h = h
 in_order_low text n (c ∷ cs) h = omega (arith, h.0, h.1, in_order_low text c.end cs h.3)
 
--- edits in order are in order in parts
+-- if two joined lists of edits are in order, so are both
 pub in_order_parts : (text : List ℕ) (n : ℕ) (xs ys : List Edit) → AreInOrder text n (map change_of (xs ++ ys))
     → AreInOrder text n (map change_of xs) × AreInOrder text (end_of n xs) (map change_of ys)
 in_order_parts text n [] ys h = (in_order_low text n (map change_of ys) h, h)
 in_order_parts text n (x ∷ xs) ys h = let p = in_order_parts text x.end xs ys h.3 in ((h.0, h.1, h.2, p.0), p.1)
 
--- a text with edits in two parts
+-- the text with two joined lists of edits
 pub changed_parts : (n : ℕ) (xs ys : List Edit) (text : List ℕ)
     → changed_from n (map change_of (xs ++ ys)) text ≡ changed_from n (map change_of xs ++ map change_of ys) text
 changed_parts n xs ys text = ap (λ cs. changed_from n cs text) (map-append change_of xs ys)

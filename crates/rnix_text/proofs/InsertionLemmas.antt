@@ -1,4 +1,4 @@
--- Places of edits in runs.
+-- Where edits are inserted into runs.
 use Rattle.std.proofs.Common.{◌≡◌, ℕ, ◌+◌, ◌≤◌, ◌<◌, List, length, map, take, get_or, Vec, Global, true, false, ◌⊎◌, inl, inr, ap, sym, ◌∙◌, subst, arith}
 use Rattle.std.{proofs.lemmas.{Bool.{cases_lt, Decides.nat_tests}, List.{get_or_read, take_all}}, specs.List.{All, Sorted.{IsPartitionedBy, IsPartitionPoint}}}
 use Rattle.rnix_text.specs.declared.runs.InsertionPoint.TheVariants as insertion
@@ -15,7 +15,7 @@ run_by_false start run h = grind (arith, nat_tests)
 does_run_by : (start : ℕ) (run : Vec Edit Global) → end_of 0 run.items ≤ start → run_ends_by start run ≡ true
 does_run_by start run h = grind (arith, nat_tests)
 
--- runs are parted by where they end
+-- runs are partitioned by whether they end before an offset
 pub runs_parted : (start : ℕ) (runs : List (Vec Edit Global)) → AreAscending 0 (map change_of (edits_of runs)) → AreFilled runs
     → IsPartitionedBy (run_ends_by start) runs
 runs_parted start runs h f i j d le l up =
@@ -26,7 +26,7 @@ module _ (start end : ℕ) (runs : List (Vec Edit Global)) (i : ℕ) (h : AreAsc
   fronts : All (λ (e : Edit). e.end ≤ start) (edits_of (take i runs))
   fronts = front_ends 0 start runs i h f (λ k d a b. run_by_true start (get_or runs k d) (point.0 k d (omega arith) a))
 
-  -- after all runs
+  -- the insertion point after all runs
   pub last_placed : i ≡ length runs → IsInsertionPoint start end runs insertion.Last
   last_placed e =
       let all : All (λ (e : Edit). e.end ≤ start) (edits_of runs) =

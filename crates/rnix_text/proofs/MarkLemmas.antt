@@ -1,4 +1,4 @@
--- Marks that pass a test which, where it passes after a byte, passes in front of it.
+-- Marks that pass a test that every earlier mark passes if a later one does.
 use Rattle.std.proofs.Common.{◌≡◌, ℕ, zero, suc, ◌-◌, ◌≤◌, ◌<◌, ◌⊎◌, inl, inr, List, [], ◌∷◌, length, get_or, Bool, true, false, refl, ap, sym, ◌∙◌, subst}
 use Rattle.std.{proofs.{Common.arith, lemmas.Bool.{false_from_ne_true, both_ways}}, specs.{Prelude.if◌then◌else◌, List.Sorted.IsPartitionedBy}}
 use Rattle.{std.specs.List.Sorted.IsPartitionPoint, rnix_text.specs.{declared.line_column.{ColumnUnit.ColumnUnit, Mark.Mark}, Marks.{is_plain, first_mark}}}
@@ -17,7 +17,7 @@ found test (x ∷ xs) m (suc (suc r)) d h bound point =
     let next : suc (suc r) - 1 ≡ suc (suc r - 1) = omega arith in
     (omega arith, ap (λ k. get_or (m ∷ x ∷ xs) k d) next ∙ more.1 ∙ sym (ap (λ w. if w then last_of test x xs else m) passes))
 
--- of two first marks, both or none give way to the marks after them
+-- of two first marks, both are the last that passes, or the same later mark is
 pub last_alike : (test : Mark → Bool) (m n : Mark) (xs : List Mark)
     → ((last_of test m xs ≡ m) × (last_of test n xs ≡ n)) ⊎ (last_of test m xs ≡ last_of test n xs)
 last_alike test m n [] = inl (refl, refl)
@@ -32,7 +32,7 @@ module _ (unit : ColumnUnit) (test : Mark → Bool) (back : (m : Mark) (b : ℕ)
   next_fails : (m : Mark) (b : ℕ) → test m ≡ false → test (mark_after unit m b) ≡ false
   next_fails m b f = false_from_ne_true (test (mark_after unit m b)) (λ t. both_ways (test m) f (back m b t))
 
-  -- no mark passes after one that fails
+  -- no mark after one that fails passes
   pub none_after : (bs : List ℕ) (m x : Mark) → test m ≡ false → last_of test x (marks_after unit m bs) ≡ x
   none_after [] m x f = refl
   none_after (b ∷ bs) m x f =
@@ -43,7 +43,7 @@ module _ (unit : ColumnUnit) (test : Mark → Bool) (back : (m : Mark) (b : ℕ)
         | false ↦ ap (λ w. if w then last_of test next (marks_after unit next bs) else x) fails
       ]
 
-  -- where the next place fails, a mark is the last
+  -- if the next position fails, a mark is the last that passes
   pub last_here : (bs : List ℕ) (b : ℕ) (m : Mark) → test (mark_after unit m b) ≡ false → last_of test m (marks_after unit m (b ∷ bs)) ≡ m
   last_here bs b m fails =
       let next = mark_after unit m b in
@@ -69,7 +69,7 @@ module _ (unit : ColumnUnit) (test : Mark → Bool) (back : (m : Mark) (b : ℕ)
       plain_cases true more l h = back m b (more (suc j) d l h)
       plain_cases false more l h = back m b (more j d (omega (arith, l)) h)
 
-  -- the marks are parted by the test
+  -- the marks are partitioned by the test
   pub parted : (bs : List ℕ) (m : Mark) → IsPartitionedBy test (m ∷ marks_after unit m bs)
   parted bs m zero j d le l h = at_first bs m j d l h
   parted bs m (suc i) zero d le l h = absurd (omega (arith, le))
@@ -88,7 +88,7 @@ module _ (unit : ColumnUnit) (test : Mark → Bool) (back : (m : Mark) (b : ℕ)
       plain_cases true more l h = more (suc i) (suc j) d le l h
       plain_cases false more l h = more i j d (omega (arith, le)) (omega (arith, l)) h
 
-  -- the last of a text's marks that pass is found where they are parted
+  -- the last mark of a text that passes is found where they are partitioned
   pub last_in : (text : List ℕ) (items : List Mark) (r : ℕ) → items ≡ marks_of unit text → test first_mark ≡ true → r ≤ length items
       → (IsPartitionedBy test items → IsPartitionPoint (λ y. test y ≡ true) (λ y. test y ≡ false) items r) → (d : Mark)
       → (0 < r) × (get_or items (r - 1) d ≡ last_of test first_mark (marks_after unit first_mark text))

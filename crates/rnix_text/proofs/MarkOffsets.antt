@@ -1,4 +1,4 @@
--- The offset of a position, counted from the last mark that is up to it.
+-- The offset of a position, counted from the last mark at or before it.
 use Rattle.std.proofs.Common.{◌≡◌, ℕ, zero, suc, ◌+◌, ◌-◌, ◌≤◌, ◌<◌, inl, inr, List, [], ◌∷◌, length, take, fold, get_or, Bool, true, false, refl, ap, sym, ◌∙◌}
 use Rattle.std.{proofs.{Common.{subst, arith}, lemmas.Bool.false_from_ne_true}, specs.Prelude.if◌then◌else◌}
 use Rattle.rnix_text.specs.{declared.line_column.{ColumnUnit.ColumnUnit, Position.Position, Mark.Mark}, Positions.{step, IsAt}, TextColumns.{Counted, last_mark}}
@@ -9,7 +9,7 @@ pub up_to_back : (unit : ColumnUnit) (p : Position) (m : Mark) (b : ℕ) → is_
 up_to_back unit p m b h =
     is_up_to_from p m (up_trans m.position (step unit m.position b) p (step_up unit m.position b) (up_to_true p (mark_after unit m b) h))
 
--- the offset of a position is as far after the mark as its column
+-- the offset of a position is as many bytes after the mark as columns
 pub record Leads (o : ℕ) (p : Position) (m : Mark) : Type 0 where
   pub line : m.position.line ≡ p.line
   pub column : m.position.column ≤ p.column
@@ -22,7 +22,7 @@ at_mark o p m e f = record {
   offset = omega (arith, e, ap (λ q. q.column) f);
 }
 
--- so it is with the last mark that is up to the position of an offset between characters
+-- this holds for the last mark at or before the position of a character boundary
 pub led : (unit : ColumnUnit) (o : ℕ) (p : Position) (bs : List ℕ) (m : Mark) (n : ℕ) → n ≤ length bs
     → (n < length bs → 128 ≤ get_or bs n 0 → 192 ≤ get_or bs n 0)
     → m.offset + n ≡ o → fold (step unit) m.position (take n bs) ≡ p → Leads o p (last_of (is_up_to p) m (marks_after unit m bs))
@@ -65,10 +65,10 @@ led unit o p (b ∷ bs) m (suc n) l first e f =
           )
     ]
 
--- the offset of a position of a text, counted from the last of its marks up to it
+-- this holds for the last mark of a text at or before a position
 pub text_led : (c : Counted) (p : Position) (o : ℕ) → IsAt c.unit c.text p o → Leads o p (last_mark (is_up_to p) c)
 text_led c p o h = led c.unit o p c.text first_mark o h.0.0 h.0.1 (omega arith) h.1
 
--- the start of a text is up to each position
+-- the start of a text is at or before each position
 pub first_up_to : (p : Position) → is_up_to p first_mark ≡ true
 first_up_to p = is_up_to_from p first_mark record { line = omega arith; column = λ e. omega arith }

@@ -1,15 +1,15 @@
--- The position of an offset, counted from the last mark in front of it.
+-- The position of an offset, counted from the last mark at or before it.
 use Rattle.std.proofs.Common.{◌≡◌, ℕ, zero, suc, ◌+◌, ◌-◌, ◌≤◌, ◌<◌, ◌^◌, inl, inr, length-take-le, List, [], ◌∷◌, length, take, fold, Bool, true, false, refl}
 use Rattle.std.{proofs.{Common.{ap, sym, ◌∙◌, subst, arith}, lemmas.Bool.Decides.nat_tests}, specs.{Prelude.if◌then◌else◌, Str.IsCharBoundary}}
 use Rattle.rnix_text.specs.{declared.line_column.{ColumnUnit.ColumnUnit, Position.Position, Mark.Mark}, Positions.{origin, step, position_at}, TextColumns.Counted}
 use Rattle.rnix_text.specs.{TextColumns.last_mark, Marks.{is_plain, is_before, first_mark, mark_after, marks_after, last_of, position_after}}
 use Rattle.rnix_text.proofs.{ByteSteps.{plain_step, column_bound}, MarkLemmas.{last_here, last_alike}}
 
--- a mark in front of an offset comes after others in front of it
+-- if the mark after a byte is at or before an offset, so is the mark before it
 pub before_back : (unit : ColumnUnit) (o : ℕ) (m : Mark) (b : ℕ) → is_before o (mark_after unit m b) ≡ true → is_before o m ≡ true
 before_back unit o m b h = grind (arith, nat_tests)
 
--- the start of a text is in front of each offset
+-- the start of a text is at or before each offset
 pub first_before : (o : ℕ) → is_before o first_mark ≡ true
 first_before o = grind (arith, nat_tests)
 
@@ -19,7 +19,7 @@ before_true o m h = grind (arith, nat_tests)
 before_false : (o : ℕ) (m : Mark) → o < m.offset → is_before o m ≡ false
 before_false o m h = grind (arith, nat_tests)
 
--- the mark is in front of the offset, whose position is counted from it
+-- the mark is at or before the offset, and the offset's position is counted from it
 pub record Counts (o : ℕ) (p : Position) (m : Mark) : Type 0 where
   pub order : m.offset ≤ o
   pub position : position_after m o ≡ p
@@ -30,7 +30,7 @@ at_mark o m e = record {
   position = ap (λ c. let q : Position = record { line = m.position.line; column = c } in q) (omega (arith, e));
 }
 
--- so it is with the last mark in front of it
+-- this holds for the last mark at or before the offset
 pub counted : (unit : ColumnUnit) (o : ℕ) (bs : List ℕ) (m : Mark) (n : ℕ) → n ≤ length bs → m.offset + n ≡ o
     → Counts o (fold (step unit) m.position (take n bs)) (last_of (is_before o) m (marks_after unit m bs))
 counted unit o [] m zero l e = at_mark o m (omega (arith, e))
@@ -67,7 +67,7 @@ counted unit o (b ∷ bs) m (suc n) l e = plain_cases (is_plain unit b) refl (co
           )
     ]
 
--- the position of an offset of a text, counted from the last of its marks in front of it
+-- the position of an offset of a text, counted from the last of its marks at or before it
 pub text_counted : (c : Counted) (o : ℕ) → IsCharBoundary c.text o → Counts o (position_at c.unit c.text o) (last_mark (is_before o) c)
 text_counted c o b = counted c.unit o c.text first_mark o b.0 (omega arith)
 

@@ -1,4 +1,4 @@
--- Runs of edits: what is in front of a place in them, and runs in which an edit is put or which are divided.
+-- Runs of edits: the edits before a position, and runs into which an edit is inserted or which are split.
 use Rattle.std.proofs.Common.{◌≡◌, ℕ, zero, suc, ◌+◌, ◌-◌, ◌≤◌, ◌<◌, List, [], ◌∷◌, ◌++◌, length, map, take, drop, get_or, slice_set, Vec, Global, refl, ap, sym, ◌∙◌, subst, arith}
 use Rattle.std.{proofs.Common.{◌⊎◌, inl, inr, append_assoc, add-one, length-append, length-take, length-drop}, specs.List.{All, insert}}
 use Rattle.std.proofs.lemmas.{Bool.cases_lt, List.{take-append-drop, get_or_append_left, get_or_read, Concat.get_or-flat_map, Elements.All-append, Edits.{insert-append_left, insert-append_right}}}
@@ -6,7 +6,7 @@ use Rattle.rnix_text.specs.{declared.edits.Edit.Edit, Edit.change_of, Changes.Ar
 use Rattle.rnix_text.{specs.Runs.{edits_of, AreFilled, end_of, IsDivided}, proofs.ChangeLemmas.none}
 
 module _ (v : Vec Edit Global) where
-  -- a run with one more edit
+  -- inserting an edit into a run
   pub put_in_run : (runs : List (Vec Edit Global)) (i at : ℕ) (e : Edit) → i < length runs → at ≤ length (get_or runs i v).items
       → v.items ≡ insert (get_or runs i v).items at e
       → edits_of (slice_set runs i v) ≡ insert (edits_of runs) (length (edits_of (take i runs)) + at) e
@@ -34,7 +34,7 @@ module _ (v : Vec Edit Global) where
   filled_with (r ∷ rs) zero f s = (s, f.1)
   filled_with (r ∷ rs) (suc i) f s = (f.0, filled_with rs i f.1 s)
 
-  -- a run that is divided
+  -- splitting a run
   module _ (w : Vec Edit Global) where
     pub divided_edits : (runs : List (Vec Edit Global)) (i n : ℕ) → i < length runs → v.items ≡ take n (get_or runs i v).items
         → w.items ≡ drop n (get_or runs i v).items
@@ -51,7 +51,7 @@ module _ (v : Vec Edit Global) where
     divided_filled (r ∷ rs) zero l f s t = (s, (t, f.1))
     divided_filled (r ∷ rs) (suc i) l f s t = (f.0, divided_filled rs i (omega (arith, l)) f.1 s t)
 
-    -- in front of the second part are the runs in front of the first, and the first
+    -- before the second part are the runs before the first, and the first
     pub divided_front : (runs : List (Vec Edit Global)) (i : ℕ) → i < length runs → take i (insert (slice_set runs i v) (suc i) w) ≡ take i runs
     divided_front [] i l = absurd (omega (arith, l))
     divided_front (r ∷ rs) zero l = refl
@@ -96,7 +96,7 @@ filled_at [] i d f l = absurd (omega (arith, l))
 filled_at (r ∷ rs) zero d f l = f.0
 filled_at (r ∷ rs) (suc i) d f l = filled_at rs i d f.1 (omega (arith, l))
 
--- where edits end: what is in front of others ends where they begin or before
+-- if two joined lists of edits are ascending, so are both, and the first ends before the second begins
 pub ascending_parts : (n : ℕ) (xs ys : List Edit) → AreAscending n (map change_of (xs ++ ys))
     → AreAscending n (map change_of xs) × AreAscending (end_of n xs) (map change_of ys)
 ascending_parts n [] ys h = (tt, h)
@@ -115,12 +115,12 @@ ends_by_last n [] h k d l = absurd (omega (arith, l))
 ends_by_last n (x ∷ xs) h zero d l = end_from x.end xs h.2
 ends_by_last n (x ∷ xs) h (suc k) d l = ends_by_last x.end xs h.2 k d (omega (arith, l))
 
--- an edit ends the same, whatever is in front of it
+-- where the last edit ends does not depend on what precedes the edits
 end_anywhere : (m n : ℕ) (xs : List Edit) → 0 < length xs → end_of m xs ≡ end_of n xs
 end_anywhere m n [] s = absurd (omega (arith, s))
 end_anywhere m n (x ∷ xs) s = refl
 
--- the last of some edits ends as one of them
+-- if all edits end by an offset, so does the last one
 pub end_within : (n start : ℕ) (xs : List Edit) → n ≤ start → ((k : ℕ) (d : Edit) → k < length xs → (get_or xs k d).end ≤ start) → end_of n xs ≤ start
 end_within n start [] l h = l
 end_within n start (x ∷ xs) l h = end_within x.end start xs (h 0 x (omega arith)) (λ k d b. h (suc k) d (omega (arith, b)))
@@ -132,7 +132,7 @@ end_is n (x ∷ []) (suc k) d s = absurd (omega (arith, s))
 end_is n (x ∷ y ∷ xs) zero d s = absurd (omega (arith, s))
 end_is n (x ∷ y ∷ xs) (suc k) d s = end_is x.end (y ∷ xs) k d (omega (arith, s))
 
--- the edits of each run ascend
+-- the edits of each run are ascending
 pub run_ascends : (n : ℕ) (runs : List (Vec Edit Global)) (i : ℕ) (d : Vec Edit Global) → AreAscending n (map change_of (edits_of runs)) → i < length runs
     → AreAscending 0 (map change_of (get_or runs i d).items)
 run_ascends n [] i d h l = absurd (omega (arith, l))
@@ -148,7 +148,7 @@ run_ends_from n (r ∷ rs) (suc j) d h f l =
     let p = ascending_parts n r.items (edits_of rs) h in
     omega (arith, end_from n r.items p.0, run_ends_from (end_of n r.items) rs j d p.1 f.1 (omega (arith, l)))
 
--- and so do the ends of runs
+-- the ends of runs are ascending
 pub run_ends_ascend : (n : ℕ) (runs : List (Vec Edit Global)) → AreAscending n (map change_of (edits_of runs)) → AreFilled runs
     → (i j : ℕ) (d : Vec Edit Global) → i ≤ j → j < length runs → end_of 0 (get_or runs i d).items ≤ end_of 0 (get_or runs j d).items
 run_ends_ascend n [] h f i j d le l = absurd (omega (arith, l))
@@ -160,7 +160,7 @@ run_ends_ascend n (r ∷ rs) h f (suc i) zero d le l = absurd (omega (arith, le)
 run_ends_ascend n (r ∷ rs) h f (suc i) (suc j) d le l =
     run_ends_ascend (end_of n r.items) rs (ascending_parts n r.items (edits_of rs) h).1 f.1 i j d (omega (arith, le)) (omega (arith, l))
 
--- the edits in front of a run end by an offset if their runs do
+-- if the runs before a run end by an offset, so do their edits
 pub front_ends : (n start : ℕ) (runs : List (Vec Edit Global)) (i : ℕ) → AreAscending n (map change_of (edits_of runs)) → AreFilled runs
     → ((k : ℕ) (d : Vec Edit Global) → k < i → k < length runs → end_of 0 (get_or runs k d).items ≤ start)
     → All (λ (e : Edit). e.end ≤ start) (edits_of (take i runs))
@@ -174,7 +174,7 @@ front_ends n start (r ∷ rs) (suc i) h f ends =
     All-append (λ (e : Edit). e.end ≤ start) r.items (edits_of (take i rs)) own
     (front_ends (end_of n r.items) start rs i p.1 f.1 (λ k d a b. ends (suc k) d (omega (arith, a)) (omega (arith, b))))
 
--- the edits of some runs, around a place in one
+-- the edits of runs are those before a run, the run's, and those after it
 pub around_run : (runs : List (Vec Edit Global)) (i : ℕ) (d : Vec Edit Global) → i < length runs
     → edits_of runs ≡ edits_of (take i runs) ++ ((get_or runs i d).items ++ edits_of (drop (suc i) runs))
 around_run [] i d l = absurd (omega (arith, l))
@@ -185,7 +185,7 @@ around_run (r ∷ rs) (suc i) d l =
 
 module _ (start : ℕ) (runs : List (Vec Edit Global)) (i at : ℕ) (r : Vec Edit Global) (inside : i < length runs) (is : r ≡ get_or runs i r)
     (bound : at < length r.items) where
-  -- the edit at a place
+  -- the edit at an index
   pub edit_there : (d : Edit) → get_or (edits_of runs) (length (edits_of (take i runs)) + at) d ≡ get_or r.items at d
   edit_there d =
       get_or-flat_map (λ (run : Vec Edit Global). run.items) runs i at r d inside (subst (λ (x : Vec Edit Global). at < length x.items) is bound)
@@ -199,7 +199,7 @@ module _ (start : ℕ) (runs : List (Vec Edit Global)) (i at : ℕ) (r : Vec Edi
       let len = ap (λ (x : Vec Edit Global). length x.items) is in
       omega (arith, same, outer, inner, len, bound)
 
-  -- the edits in front of it
+  -- the edits before it end by the offset
   pub ends_before : All (λ (e : Edit). e.end ≤ start) (edits_of (take i runs)) → ((k : ℕ) (d : Edit) → k < at → (get_or r.items k d).end ≤ start)
       → (k : ℕ) (d : Edit) → k < length (edits_of (take i runs)) + at → (get_or (edits_of runs) k d).end ≤ start
   ends_before front own k d l = by_side (cases_lt k (length (edits_of (take i runs))))
@@ -217,7 +217,7 @@ module _ (start : ℕ) (runs : List (Vec Edit Global)) (i at : ℕ) (r : Vec Edi
           ∙ ap (λ (x : Vec Edit Global). get_or x.items j d) (sym is) in
           subst (λ (e : Edit). e.end ≤ start) (sym (ap (λ m. get_or (edits_of runs) m d) (sym there) ∙ found)) (own j d low)
 
--- a run is divided
+-- splitting a run of the list
 module _ (old new : List (Vec Edit Global)) (i n : ℕ) (r v w : Vec Edit Global) (inside : i < length old) (is : r ≡ get_or old i r)
     (some : 0 < n) (more : n < length r.items) (first_is : v.items ≡ take n r.items) (second_is : w.items ≡ drop n r.items)
     (new_is : new ≡ insert (slice_set old i v) (i + 1) w) where

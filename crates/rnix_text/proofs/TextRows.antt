@@ -1,4 +1,4 @@
--- What the definitions say of certain texts.
+-- The values of the definitions for certain texts.
 use Rattle.{std.proofs.Common.{◌≡◌, ℕ, List, [], ◌∷◌, codes, refl}, rnix_text.specs.declared.line_column.ColumnUnit.TheVariants.{Bytes, Chars, Utf16}}
 use Rattle.rnix_text.specs.{Positions.position_at, Marks.{marks_of, first_mark}, Changes.changed_from}
 
@@ -6,7 +6,7 @@ use Rattle.rnix_text.specs.{Positions.position_at, Marks.{marks_of, first_mark},
 abbrev text : List ℕ
 text = 195 ∷ 169 ∷ 10 ∷ 240 ∷ 159 ∷ 152 ∷ 128 ∷ 120 ∷ []
 
--- a character of two bytes is one column of characters and of UTF-16
+-- a character of two bytes is one column in characters and in UTF-16
 bytes_before_newline : position_at Bytes text 2 ≡ record { line = 0; column = 2 }
 bytes_before_newline = refl
 
@@ -20,7 +20,7 @@ units_before_newline = refl
 after_newline : position_at Utf16 text 3 ≡ record { line = 1; column = 0 }
 after_newline = refl
 
--- a character of four bytes is one column of characters and two of UTF-16
+-- a character of four bytes is one column in characters and two in UTF-16
 bytes_after_pair : position_at Bytes text 7 ≡ record { line = 1; column = 4 }
 bytes_after_pair = refl
 
@@ -30,11 +30,11 @@ chars_after_pair = refl
 units_after_pair : position_at Utf16 text 8 ≡ record { line = 1; column = 3 }
 units_after_pair = refl
 
--- columns of bytes have a mark at each line
+-- in bytes there is one mark for each line
 marks_of_lines : marks_of Bytes (codes "a\nbc") ≡ first_mark ∷ record { offset = 2; position = record { line = 1; column = 0 } } ∷ []
 marks_of_lines = refl
 
--- a letter is replaced, and another is put after it
+-- one letter is replaced, and another one inserted after it
 two_changes : changed_from 0 (record { start = 1; end = 2; new = codes "xy" } ∷ record { start = 2; end = 2; new = codes "z" } ∷ [])
     (codes "abc") ≡ codes "axyzc"
 two_changes = refl

@@ -4,7 +4,7 @@ use Rattle.{std.{proofs.lemmas.{Bool.cases_lt, Option.same_Some}, specs.Prelude.
 use Rattle.rnix_green.{specs.Walk.{holders, ancestors_of, counted}, proofs.{NumberTests.{is_below, is_not_below}, InsideLemmas.{held, ends_inside}}}
 use Rattle.{rnix_green.proofs.InsideLemmas.{below_parent, has_parent}, rnix_tree.specs.Around.ancestors_if}
 
--- one number more
+-- the numbers from `n` on are `n` and those from the next one on
 pub counted_more : (n end : ℕ) → n < end → counted n (end - n) ≡ n ∷ counted (n + 1) (end - (n + 1))
 counted_more n end l =
     let more : end - n ≡ suc (end - (n + 1)) = omega arith in
@@ -14,14 +14,14 @@ module _ (t : Tree) (n : ℕ) where
   abbrev pub this : ℕ → Located
   this k = record { tree = t; number = k }
 
-  -- an element that n lies in, or does not
+  -- an element from `k` down contains `n`, or does not
   pub holds : (k : ℕ) → n ≤ k + (item t k).below → holders t n (suc k) ≡ this k ∷ holders t n k
   holds k l = ap (λ b. if b then holders t n k else this k ∷ holders t n k) (is_not_below (k + (item t k).below) n l)
 
   pub passes : (k : ℕ) → k + (item t k).below < n → holders t n (suc k) ≡ holders t n k
   passes k l = ap (λ b. if b then holders t n k else this k ∷ holders t n k) (is_below (k + (item t k).below) n l)
 
-  -- no element between p and n holds n, if p is its parent
+  -- no element between `p` and `n` contains `n`, if `p` is its parent
   pub none_between : (p k : ℕ) → n < length (items_of t) → (item t n).parent ≡ Some p → p < k → k < n → k + (item t k).below < n
   none_between p k l e above under =
       elim (cases_lt (k + (item t k).below) n) [
@@ -40,7 +40,7 @@ module _ (t : Tree) (n : ℕ) where
         | inr last ↦ (let same : suc k ≡ p + 1 = omega arith in ap (holders t n) same)
       ]
 
--- what holds a node's parent holds the node, and no other before it
+-- up to its parent, the elements that contain an element are those that contain its parent
 pub same_holders : (t : Tree) (n p k : ℕ) → n < length (items_of t) → (item t n).parent ≡ Some p → k ≤ p + 1 → holders t n k ≡ holders t p k
 same_holders t n p zero l e h = refl
 same_holders t n p (suc k) l e h =
@@ -63,7 +63,7 @@ same_holders t n p (suc k) l e h =
           | inr same ↦ (let eq : k ≡ p = omega arith in let b = ap (λ x. (item t x).below) eq in omega (arith, parent.high))
         ]
 
--- the element comes first, and then what is around its parent
+-- the ancestors of an element are the element and those of its parent
 pub ancestors_step : (t : Tree) (n : ℕ) → n < length (items_of t) → ancestors_of record { tree = t; number = n } ≡ record { tree = t; number = n }
     ∷ ancestors_if t (item t n).parent
 ancestors_step t n l =

@@ -5,7 +5,7 @@ use Rattle.rnix_green.specs.{Tree.{Located, items_of, item, item_of, children_in
 use Rattle.rnix_green.proofs.{SiblingLemmas.{no_sibling, next_inside}, PartLemmas.{IsPart, IsOne, one_leaf, one_node, below_of_part, part_there, one_there}}
 use Rattle.rnix_green.proofs.{PartLemmas.children_between, InsideLemmas.{ends_inside, leaf_holds_nothing}}
 
--- P holds of each
+-- a property holds of each element of a list
 abbrev pub Each : {X : Type 0} → (X → Type 0) → List X → Type 0
 Each P [] = Unit {0}
 Each P (x ∷ xs) = P x × Each P xs
@@ -15,7 +15,7 @@ true_or_false : (b : Bool) → (b ≡ true) ⊎ (b ≡ false)
 true_or_false true = inl refl
 true_or_false false = inr refl
 
--- what holds of each holds of what is found, and what is found passes
+-- what holds of each element holds of the one that is found, and this one passes the test
 pub found : {X : Type 0} (P : X → Type 0) (test : X → Bool) (xs : List X) (x : X) → Each P xs → find test xs ≡ Some x → P x × (test x ≡ true)
 found P test [] x h e = absurd (cc)
 found P test (y ∷ ys) x h e =
@@ -26,7 +26,7 @@ found P test (y ∷ ys) x h e =
       | inr fails ↦ found P test ys x h.1 (sym (ap (λ b. cond b (Some y) (find test ys)) fails) ∙ e)
     ]
 
--- the numbers of a forest lie in it
+-- the numbers of the trees of a forest are within the forest
 numbers_within : (low high n : ℕ) (f : Forest) → low ≤ n → n + element_count f ≤ high → Each (λ k. (low ≤ k) × (k < high)) (tree_numbers n f)
 numbers_within low high n empty l h = tt
 numbers_within low high n (leaf k t f) l h = ((l, omega arith), numbers_within low high (n + 1) f (omega arith) (omega arith))
@@ -37,7 +37,7 @@ each_mapped : {X Y : Type 0} (P : X → Type 0) (Q : Y → Type 0) (f : X → Y)
 each_mapped P Q f [] g h = tt
 each_mapped P Q f (x ∷ xs) g h = (g x h.0, each_mapped P Q f xs g h.1)
 
--- the element of a walk is inside e
+-- the element of a spot is inside `e`
 pub record IsHeldBy (e : Located) (s : Spot) : Type 0 where
   pub tree : s.1.tree ≡ e.tree
   pub there : s.1.number < length (items_of s.1.tree)
@@ -45,7 +45,7 @@ pub record IsHeldBy (e : Located) (s : Spot) : Type 0 where
   pub high : s.1.number + (item_of s.1).below ≤ e.number + (item_of e).below
   pub sort : (item_of s.1).is_node ≡ s.0
 
--- each child is inside
+-- each child of an element is inside it
 pub children_within : (t : Tree) (n : ℕ) → n < length (items_of t)
     → Each (IsHeldBy record { tree = t; number = n }) (children_of record { tree = t; number = n })
 children_within t n l = go _ (part_there t n l) (one_there t n l)

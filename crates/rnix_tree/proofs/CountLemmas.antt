@@ -1,4 +1,4 @@
--- How long the lists are that walks give.
+-- How long the lists of walks are.
 use Rattle.std.proofs.Common.{◌≡◌, ℕ, zero, suc, ◌+◌, ◌≤◌, ◌<◌, nat_lt, List, [], ◌∷◌, length, map, true, false, refl, ap, arith, length-append}
 use Rattle.{std.{proofs.lemmas.List.length-map, specs.Prelude.if◌then◌else◌}, rnix_green.specs.{Forest.{Forest, empty, leaf, node, element_count}, Tree.Tree}}
 use Rattle.rnix_green.specs.{Tree.{Located, items_of, item, part_at, children_in}, Walk.{Spot, Event, spot_at, event_at, children_of, steps_from, preorder_of}}
@@ -21,7 +21,7 @@ steps_from-twice n (node k c f) =
       length-append (steps_from (n + 1) c) ((false, n) ∷ steps_from (n + 1 + element_count c) f),
     )
 
--- no more nodes than elements
+-- there are at most as many nodes as elements
 pub nodes_in-few : (spots : List Spot) → length (nodes_in spots) ≤ length spots
 nodes_in-few [] = omega arith
 nodes_in-few (spot ∷ spots) =
@@ -30,7 +30,7 @@ nodes_in-few (spot ∷ spots) =
       | false ↦ omega (arith, nodes_in-few spots)
     ]
 
--- no more events of nodes than events
+-- there are at most as many events of nodes as events
 pub node_events-few : (events : List Event) → length (node_events events) ≤ length events
 node_events-few [] = omega arith
 node_events-few (event ∷ events) =
@@ -47,16 +47,16 @@ holders-few t n (suc k) =
       | false ↦ omega (arith, holders-few t n k)
     ]
 
--- so many numbers
+-- `k` numbers from `n` on are `k`
 pub counted-many : (n k : ℕ) → length (counted n k) ≡ k
 counted-many n zero = refl
 counted-many n (suc k) = ap suc (counted-many (n + 1) k)
 
--- no more ancestors than elements up to it
+-- an element has at most as many ancestors as elements up to it
 pub ancestors_of-few : (e : Located) → length (ancestors_of e) ≤ e.number + 1
 ancestors_of-few e = holders-few e.tree e.number (e.number + 1)
 
--- a walk enters and leaves each element
+-- a walk has two events for each element
 pub preorder_of-twice : (t : Tree) (n : ℕ) → n < length (items_of t)
     → length (preorder_of record { tree = t; number = n }) ≡ (1 + (item t n).below) + (1 + (item t n).below)
 preorder_of-twice t n l =
@@ -64,7 +64,7 @@ preorder_of-twice t n l =
     let all = below_of_part t n part (part_there t n l) (one_there t n l) in
     omega (arith, length-map (steps_from n part) (event_at t), steps_from-twice n part, all)
 
--- no more children than elements inside
+-- an element has at most as many children as elements inside it
 pub children_of-few : (t : Tree) (n : ℕ) → n < length (items_of t) → length (children_of record { tree = t; number = n }) ≤ (item t n).below
 children_of-few t n l = go _ (part_there t n l) (one_there t n l)
   where

@@ -1,4 +1,4 @@
--- The children of an element, with what is inside them, are no more than what is inside it.
+-- The children of an element, with the elements inside them, are no more than the elements inside it.
 use Rattle.std.proofs.Common.{◌≡◌, ℕ, suc, ◌+◌, ◌-◌, ◌≤◌, ◌<◌, List, [], ◌∷◌, length, map, true, false, Option, Some, refl, ap, ◌∙◌, arith, inl, inr}
 use Rattle.{std.{proofs.lemmas.Bool.cases_lt, specs.Prelude.{if◌then◌else◌, nat_lt}}, rnix_green.specs.Forest.{Forest, empty, leaf, node, text_of}}
 use Rattle.rnix_green.specs.{Forest.element_count, Tree.{Tree, Located, Item, items_of, forest_of, item, part_of, children_in}, Walk.{Spot, spot_at, nodes_in}}
@@ -6,7 +6,7 @@ use Rattle.rnix_green.{specs.{Walk.children_of, PreorderNumbers.tree_numbers}, p
 use Rattle.rnix_green.proofs.{PartLemmas.{one_node, item_of_part, below_of_part, part_there, one_there}, NestLemmas.{at, inside, beyond, behind}}
 use Rattle.{rnix_green.proofs.InsideLemmas.elements_in_all, rnix_tree.specs.InsideCounts.{inside_count, nodes_count, spots_count}}
 
--- the trees of a forest are all of it
+-- the trees of a forest, with the elements inside them, are all its elements
 sibling_counts : (t : Tree) (n s : ℕ) (p : Option ℕ) (f : Forest) → ((m i : ℕ) → m ≡ n + i → i < element_count f → (item t m).below ≡ (at n s p f i).below)
     → spots_count (map (spot_at t) (tree_numbers n f)) ≡ element_count f
 sibling_counts t n s p empty h = refl
@@ -32,7 +32,7 @@ sibling_counts t n s p (node k c f) h =
               ap (λ (y : Item). y.below) x ∙ ap (λ j. (at (n + 1 + element_count c) (s + length (text_of c)) p f j).below) same
         ]
 
--- the children of an element of a tree, and what is inside them
+-- this holds for the children of an element of a tree
 counts_there : (t : Tree) (n : ℕ) → n < length (items_of t) → spots_count (children_of record { tree = t; number = n }) ≡ (item t n).below
 counts_there t n l = go _ (part_there t n l) (one_there t n l)
   where
@@ -58,7 +58,7 @@ counts_there t n l = go _ (part_there t n l) (one_there t n l)
               | beyond more x ↦ absurd (omega arith)
             ]
 
--- an element that is not in the forest is no part of it
+-- the part of an element that is not in the forest is empty
 no_part : (m n : ℕ) (f : Forest) → n + element_count f ≤ m → part_of m n f ≡ empty
 no_part m n empty l = refl
 no_part m n (leaf k t f) l =
@@ -70,7 +70,7 @@ no_part m n (node k c f) l =
     ∙ ap (λ b. if b then inner else outer) (is_not_below m (n + 1 + element_count c) (omega arith))
     ∙ no_part m (n + 1 + element_count c) f (omega arith)
 
--- the children of an element, with what is inside them, are no more than what is inside the element
+-- the children of an element, with the elements inside them, are no more than the elements inside it
 pub children_fit : (e : Located) → spots_count (children_of e) ≤ inside_count e
 children_fit e =
     elim (cases_lt e.number (length (items_of e.tree))) [
@@ -83,7 +83,7 @@ children_fit e =
           omega (arith, zero)
     ]
 
--- nodes among elements, with what is inside them, are no more than the elements
+-- the nodes among some elements, with the elements inside them, are no more than these elements with theirs
 nodes_fit : (spots : List Spot) → nodes_count (nodes_in spots) ≤ spots_count spots
 nodes_fit [] = omega arith
 nodes_fit (spot ∷ spots) =
@@ -92,6 +92,6 @@ nodes_fit (spot ∷ spots) =
       | false ↦ omega (arith, nodes_fit spots)
     ]
 
--- the nodes among the children, with what is inside them, are no more than what is inside the element
+-- the children that are nodes, with the elements inside them, are no more than the elements inside the parent
 pub child_nodes_fit : (e : Located) → nodes_count (nodes_in (children_of e)) ≤ inside_count e
 child_nodes_fit e = omega (arith, children_fit e, nodes_fit (children_of e))

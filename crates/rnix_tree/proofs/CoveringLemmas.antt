@@ -1,4 +1,4 @@
--- The innermost element that a range lies in.
+-- The innermost element that contains a range.
 use Rattle.std.proofs.Common.{◌≡◌, ℕ, zero, suc, ◌+◌, ◌≤◌, ◌<◌, length, find, map, List, Bool, true, false, Some, None, refl, ap, sym, ◌∙◌, arith}
 use Rattle.std.{proofs.{Common.{inl, inr, nat_lt}, lemmas.Bool.{cases_lt, and_parts, Decides.nat_tests}}, specs.Prelude.{nat_le, ◌&&◌, cond}}
 use Rattle.rnix_green.specs.{Range.Extent, Tree.{Tree, items_of, item, extent_of}, Walk.{Spot, spot_at, children_of}}
@@ -8,12 +8,12 @@ use Rattle.rnix_green.proofs.InsideLemmas.{ends_inside, first_child_of, below_pa
 use Rattle.rnix_tree.specs.{Around.IsOnWayTo, Covering.{holds, holds_at, child_at_range, IsInnermost}, Offset.IsHolding}
 use Rattle.rnix_tree.proofs.{ChildLemmas.token_childless, OffsetLemmas.{order, token_last, within_node}, RelativeLemmas.{not_beside, IsClimbing, climb_step, climb_goes}}
 
--- a test that is not passed fails
+-- a test that is not true is false
 fails : (b : Bool) → ¬ (b ≡ true) → b ≡ false
 fails true h = absurd (h refl)
 fails false h = refl
 
--- what a range lies in starts no later than the range, and ends after its start
+-- an element that contains a range starts at or before the range's start, and ends after it
 holds_start : (range outer : Extent) → holds range outer ≡ true → (outer.start ≤ range.start) × (range.start < outer.end)
 holds_start range outer h =
     let sides = and_parts (nat_le outer.start range.start && nat_le range.end outer.end) (nat_lt outer.start range.end && nat_lt range.start outer.end) h in
@@ -21,11 +21,11 @@ holds_start range outer h =
     let high = (and_parts (nat_lt outer.start range.end) (nat_lt range.start outer.end) sides.1).1 in
     (grind (arith, nat_tests), grind (arith, nat_tests))
 
--- so a range that starts elsewhere lies not in it
+-- so an element whose range does not include the range's start does not contain the range
 starts_elsewhere : (range outer : Extent) → ¬ ((outer.start ≤ range.start) × (range.start < outer.end)) → holds range outer ≡ false
 starts_elsewhere range outer h = fails (holds range outer) (λ e. h (holds_start range outer e))
 
--- a child ends before the next begins
+-- a child ends before the next one starts
 pub ends_before : (t : Tree) (n m c : ℕ) → IsChild record { tree = t; number = n } m → IsChild record { tree = t; number = n } c → m < c
     → m + (item t m).below < c
 ends_before t n m c here child less =
@@ -42,29 +42,29 @@ module _ (t : Tree) (n : ℕ) (l : n < length (items_of t)) (test : Spot → Boo
   abbrev from_child : ℕ → List Spot
   from_child from = map (spot_at t) (siblings_between (items_of t) from past)
 
-  -- none is after the last
+  -- after the last child none is found
   no_child : (from : ℕ) → past ≤ from → find test (from_child from) ≡ None
   no_child from high = ap (λ ns. find test (map (spot_at t) ns)) (no_sibling (items_of t) from past high)
 
-  -- the search meets one, and continues after it
+  -- the search finds a child that passes, or continues after it
   met : (from : ℕ) (b : Bool) → from < past → test (spot_at t from) ≡ b
       → find test (from_child from) ≡ cond b (Some (spot_at t from)) (find test (from_child (from + 1 + (item t from).below)))
   met from b high e =
       ap (λ ns. find test (map (spot_at t) ns)) (next_sibling (items_of t) from past (item t from).below high (next_inside t n l) refl)
       ∙ ap (λ x. cond x (Some (spot_at t from)) (find test (from_child (from + 1 + (item t from).below)))) e
 
-  -- a child
+  -- a number is that of a child
   abbrev IsHere : ℕ → Type 0
   IsHere = IsChild record { tree = t; number = n }
 
-  -- after a child stands the next
+  -- after a child and everything inside it comes the next child
   next_here : (m : ℕ) → IsHere m → m + 1 + (item t m).below < past → IsHere (m + 1 + (item t m).below)
   next_here m h fits = record {
     is_there = omega (arith, next_inside t n l);
     parent = sibling_behind t m n h.is_there h.parent (omega arith);
   }
 
-  -- a child that passes is found, if none before it passes
+  -- a child that passes is found if none before it passes
   meets_it : (from c : ℕ) → from ≡ c → IsHere c → test (spot_at t c) ≡ true → find test (from_child from) ≡ Some (spot_at t c)
   meets_it from c eq child passes =
       let inside = below_parent t c n child.is_there child.parent in
@@ -85,7 +85,7 @@ module _ (t : Tree) (n : ℕ) (l : n < length (items_of t)) (test : Spot → Boo
             (next_here from here (omega (arith, inside.high))) before passes
       ]
 
-  -- where none passes, none is found
+  -- if no child passes, none is found
   find_none : (room from : ℕ) → past ≤ from + room → (from < past → IsHere from) → ((m : ℕ) → IsHere m → test (spot_at t m) ≡ false)
       → find test (from_child from) ≡ None
   find_none zero from few here none = no_child from (omega arith)
@@ -97,11 +97,11 @@ module _ (t : Tree) (n : ℕ) (l : n < length (items_of t)) (test : Spot → Boo
             ∙ find_none room (from + 1 + (item t from).below) (omega arith) (λ fits. next_here from (here less) fits) none
       ]
 
-  -- the first child, if there is one
+  -- the first child follows the element, if there is one
   first_here : n + 1 < past → IsHere (n + 1)
   first_here some = record { is_there = omega (arith, next_inside t n l); parent = first_child_of t n l (omega arith) }
 
-  -- the same of all children
+  -- the search in the list of children is the search from the first child on
   all_children : find test (children_of record { tree = t; number = n }) ≡ find test (from_child (n + 1))
   all_children = ap (λ ns. find test (map (spot_at t) ns)) (sym (children_between t n l))
 
@@ -114,7 +114,7 @@ module _ (t : Tree) (n : ℕ) (l : n < length (items_of t)) (test : Spot → Boo
   pub found_none : ((m : ℕ) → IsHere m → test (spot_at t m) ≡ false) → find test (children_of record { tree = t; number = n }) ≡ None
   found_none none = all_children ∙ find_none (item t n).below (n + 1) (omega arith) first_here none
 
--- the token that has the byte after an offset
+-- the token that contains the byte after an offset
 pub record IsTokenWith (t : Tree) (offset token : ℕ) : Type 0 where
   pub is_there : token < length (items_of t)
   pub is_token : (item t token).is_node ≡ false
@@ -129,7 +129,7 @@ token_held t n offset token h = record {
   high = omega (arith, h.high);
 }
 
--- only the child with the token in which a range starts can have the range
+-- only the child with the token in which a range starts can contain the range
 module _ (range : Extent) (t : Tree) (n token c : ℕ) (l : n < length (items_of t)) (h : IsTokenWith t range.start token) (way : IsOnWayTo t n token c) where
   before_it : (m : ℕ) → m < c → IsChild record { tree = t; number = n } m → holds_at range (spot_at t m) ≡ false
   before_it m less child =
@@ -163,7 +163,7 @@ module _ (range : Extent) (t : Tree) (n token c : ℕ) (l : n < length (items_of
     ]
   ])
 
--- a range that starts outside an element is in no child
+-- no child contains a range that starts outside the element
 pub range_outside : (range : Extent) (t : Tree) (n : ℕ) → IsNodeIn t n → ¬ (((item t n).start ≤ range.start) × (range.start < (item t n).end))
     → child_at_range range record { tree = t; number = n } ≡ None
 range_outside range t n node out = found_none t n node.is_there (holds_at range) (λ m child.
@@ -171,7 +171,7 @@ range_outside range t n node out = found_none t n node.is_there (holds_at range)
     let b = within_node t n node m inside.low inside.high in
     starts_elsewhere range (extent_of record { tree = t; number = m }) (λ in_it. out (omega (arith, b.0, in_it.0), omega (arith, b.1, in_it.1))))
 
--- where a search from both ends stands: at a child before the element or with it, and at an element around it
+-- a search from both ends is at a child at or before the element's, and at an element around it
 pub record IsFlanked (t : Tree) (p m child above : ℕ) : Type 0 where
   pub here : IsChild record { tree = t; number = p } child
   pub low : child ≤ m
@@ -184,7 +184,7 @@ flanked_first t p m l low high = record {
   climbing = record { above = low; low = omega arith; high = omega arith };
 }
 
--- each step continues to the next child, and to the parent
+-- each step moves to the next child, and to the parent
 pub flanked_step : (t : Tree) (p m child above around : ℕ) → p < length (items_of t) → m ≤ p + (item t p).below → IsFlanked t p m child above
     → child + 1 + (item t child).below ≤ m → (item t above).parent ≡ Some around → ¬ (around ≡ p)
     → IsFlanked t p m (child + 1 + (item t child).below) around
@@ -196,23 +196,23 @@ flanked_step t p m child above around l high h passed e differs =
       climbing = climb_step t p m above around l high h.climbing e differs;
     }
 
--- it ends at a child that has not ended before the element
+-- the search ends at a child that does not end before the element
 pub flanked_child : (t : Tree) (p m child above : ℕ) → p < length (items_of t) → IsFlanked t p m child above → m ≤ child + (item t child).below
     → IsOnWayTo t p m child
 flanked_child t p m child above l h over =
     let inside = below_parent t child p h.here.is_there h.here.parent in
     record { parent = h.here.parent; above = inside.low; low = h.low; high = over }
 
--- or at an element right below
+-- or at an element whose parent is the node
 pub flanked_above : (t : Tree) (p m child above : ℕ) → IsFlanked t p m child above → (item t above).parent ≡ Some p → IsOnWayTo t p m above
 flanked_above t p m child above h e = (let c = h.climbing in record { parent = e; above = c.above; low = c.low; high = c.high })
 
--- and the element has a parent
+-- the element above has a parent
 pub flanked_goes : (t : Tree) (p m child above : ℕ) → p < length (items_of t) → m ≤ p + (item t p).below → IsFlanked t p m child above
     → (item t above).parent ≡ None → ⊥
 flanked_goes t p m child above l high h e = climb_goes t p m above l high h.climbing e
 
--- c is the element n or inside it, has the token in which the range starts, and the range lies in c
+-- element `c` is `n` or inside it, contains the token in which the range starts, and contains the range
 pub record IsReached (t : Tree) (range : Extent) (n token c : ℕ) : Type 0 where
   pub low : n ≤ c
   pub high : c + (item t c).below ≤ n + (item t n).below
@@ -222,7 +222,7 @@ pub record IsReached (t : Tree) (range : Extent) (n token c : ℕ) : Type 0 wher
   pub inside : ¬ (c ≡ n) → holds range (extent_of record { tree = t; number = c }) ≡ true
 
 module _ (t : Tree) (range : Extent) (n token : ℕ) where
-  -- it begins with the node
+  -- the search begins with the node itself
   pub reached_first : IsNodeIn t n → IsHolding record { tree = t; number = n } (range.start + 1) token → IsReached t range n token n
   reached_first node h = record {
     low = omega arith;
@@ -233,7 +233,7 @@ module _ (t : Tree) (range : Extent) (n token : ℕ) where
     inside = λ differs. absurd (differs refl);
   }
 
-  -- from an element it continues to the child with the token, if the range lies in it
+  -- it continues with the child that has the token, if the range is in this child
   pub reached_child : (c child : ℕ) → IsReached t range n token c → IsOnWayTo t c token child
       → holds range (extent_of record { tree = t; number = child }) ≡ true → IsReached t range n token child
   reached_child c child r way e =
@@ -248,18 +248,18 @@ module _ (t : Tree) (range : Extent) (n token : ℕ) where
         inside = λ _. e;
       }
 
-  -- it ends where no child has the range
+  -- it ends if no child contains the range
   reached_last : (c : ℕ) → IsReached t range n token c → child_at_range range record { tree = t; number = c } ≡ None
       → IsInnermost range record { tree = t; number = n } record { tree = t; number = c }
   reached_last c r none = record { tree = refl; low = r.low; high = omega (arith, r.high); inside = r.inside; innermost = none }
 
-  -- as where the child with the token has it not
+  -- so it does if the child with the token does not contain the range
   pub reached_end : (c child : ℕ) → IsReached t range n token c → IsHolding record { tree = t; number = n } (range.start + 1) token
       → IsOnWayTo t c token child → holds range (extent_of record { tree = t; number = child }) ≡ false
       → IsInnermost range record { tree = t; number = n } record { tree = t; number = c }
   reached_end c child r h way e = reached_last c r (range_in_none range t c token child r.there (token_held t n range.start token h) way e)
 
-  -- or at the token
+  -- and at the token
   pub reached_token : (c : ℕ) → IsReached t range n token c → IsHolding record { tree = t; number = n } (range.start + 1) token → token ≤ c
       → IsInnermost range record { tree = t; number = n } record { tree = t; number = c }
   reached_token c r h end =
@@ -267,7 +267,7 @@ module _ (t : Tree) (range : Extent) (n token : ℕ) where
       let is_token = ap (λ k. (item t k).is_node) (sym eq) ∙ h.inside.token.is_token in
       reached_last c r (ap (find (holds_at range)) (token_childless t c r.there is_token))
 
-  -- or with the node itself, where the range starts outside it
+  -- and at the node itself, if the range starts outside it
   pub reached_none : IsNodeIn t n → ¬ (((item t n).start ≤ range.start) × (range.start < (item t n).end))
       → IsInnermost range record { tree = t; number = n } record { tree = t; number = n }
   reached_none node out = record {

@@ -1,11 +1,11 @@
--- The start of a long text is shown up to a character's end.
+-- The part of a long text that is shown ends at a character boundary.
 use Rattle.std.proofs.Common.{◌≡◌, ℕ, ◌≤◌, ◌<◌, Bool, true, false, List, [], ◌∷◌, ◌++◌, length, take, codes, get_or, Option, Some, None, refl, ap, sym}
 use Rattle.std.proofs.{Common.{subst, ◌∙◌, arith, inl, inr}, lemmas.{Bool.{cases_lt, and_parts, Decides.nat_tests}, List.Folds.list_all-append}}
 use Rattle.std.{proofs.lemmas.{List.Folds.list_all_more, Str.IsCharBoundary-after_ascii}, specs.{Prelude.if◌then◌else◌, Char.is_ascii, Fmt.debug_str}}
 use Rattle.{std.specs.{Fmt.debug_escape, List.{list_all, flat_map}, Str.{IsCharBoundary, IsUtf8}}, rnix_green.proofs.NumberTests.is_not_below}
 use Rattle.rnix_tree.specs.Lines.{shown}
 
--- the byte after which a text of ASCII is cut is a character's end
+-- if the shown part is ASCII, it ends at a character boundary
 ends_there : (text : List ℕ) → IsUtf8 text → 25 ≤ length text → list_all is_ascii (take 21 text ++ codes " ...") ≡ true → IsCharBoundary text 21
 ends_there text utf8 long e =
     let front : list_all is_ascii (take 21 text) ≡ true =
@@ -14,7 +14,7 @@ ends_there text utf8 long e =
     (and_parts (list_all is_ascii (take 20 text)) (is_ascii (get_or text 20 0)) (sym (list_all_more is_ascii text 20 0 (omega arith)) ∙ front)).1 in
     IsCharBoundary-after_ascii text 20 utf8 (omega arith) (grind (arith, nat_tests))
 
--- so a text whose start is ASCII is cut there
+-- so a text whose shown part is ASCII is cut there
 cut_there : (text : List ℕ) (cut : ℕ) → IsUtf8 text → 25 ≤ length text → 21 ≤ cut → ((i : ℕ) → 21 ≤ i → i < cut → ¬ IsCharBoundary text i)
     → list_all is_ascii (take 21 text ++ codes " ...") ≡ true → cut ≡ 21
 cut_there text cut utf8 long low nearest e = elim (cases_lt 21 cut) [
@@ -22,7 +22,7 @@ cut_there text cut utf8 long low nearest e = elim (cases_lt 21 cut) [
   | inr near ↦ omega arith
 ]
 
--- what is said of the text up to a character's end is said of what is shown
+-- what holds of the text up to each later character boundary holds of what is shown
 pub start_shown : (P : Option (List ℕ) → Type 0) (text : List ℕ) (cut : ℕ) → IsUtf8 text → 25 ≤ length text → 21 ≤ cut
     → ((i : ℕ) → 21 ≤ i → i < cut → ¬ IsCharBoundary text i) → P None → P (debug_str (take cut text ++ codes " ...")) → P (debug_str (shown text))
 start_shown P text cut utf8 long low nearest none h =

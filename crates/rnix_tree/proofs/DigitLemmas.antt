@@ -1,4 +1,4 @@
--- The digits of a number, two at a time.
+-- Writing the digits of a number, two at a time.
 use Rattle.std.proofs.Common.{◌≡◌, ℕ, zero, suc, ◌+◌, ◌-◌, ◌*◌, ◌/◌, ◌%◌, ◌^◌, ◌<◌, ◌≤◌, Bool, true, ◌&&◌, T, eqb, List, [], ◌∷◌, ◌++◌, length, get_or, ap, ◌∙◌, inl, inr, arith, eq-zero-or-pos, eqb→eq, append_assoc, length-append}
 use lib.Ieee.Fits.{and_l, and_r}
 use Rattle.std.proofs.lemmas.Fmt.{decimal_digit, decimal_step}
@@ -9,7 +9,7 @@ use Rattle.rnix_tree.specs.declared.digits.TheConstants.{PAIRS}
 abbrev pub pair : ℕ → List ℕ
 pair p = (48 + p / 10) ∷ (48 + p % 10) ∷ []
 
--- the table holds the two digits of each number below n
+-- the table contains the two digits of each number below `n`
 abbrev are_pairs : ℕ → Bool
 are_pairs zero = true
 are_pairs (suc p) = (eqb (get_or PAIRS (p * 2) 0) (48 + p / 10) && eqb (get_or PAIRS (p * 2 + 1) 0) (48 + p % 10)) && are_pairs p
@@ -22,22 +22,22 @@ pairs_below (suc n) p t h =
       | inr g ↦ pairs_below n p (and_r _ (are_pairs n) t) (omega arith)
     ]
 
--- so of each below a hundred
+-- so it does for each number below 100
 pub pairs_at : (p : ℕ) → p < 100 → (get_or PAIRS (p * 2) 0 ≡ 48 + p / 10) × (get_or PAIRS (p * 2 + 1) 0 ≡ 48 + p % 10)
 pairs_at p h = pairs_below 100 p tt h
 
--- a number below ten has one digit
+-- a number below 10 has one digit
 pub length_one : (n : ℕ) → n < 10 → length (decimal n) ≡ 1
 length_one n h = ap length (decimal_digit n h)
 
--- and others below a hundred have two
+-- any other number below 100 has two digits
 pub decimal_two : (n : ℕ) → 10 ≤ n → n < 100 → decimal n ≡ pair n
 decimal_two n lo hi = rw (decimal_step n lo (omega arith), decimal_digit (n / 10) (omega arith))
 
 pub length_two : (n : ℕ) → 10 ≤ n → n < 100 → length (decimal n) ≡ 2
 length_two n lo hi = ap length (decimal_two n lo hi)
 
--- the last two digits of a number come after those of its hundredth part
+-- the last two digits of a number follow the digits of a hundredth of it
 pub decimal_pair : (n : ℕ) → 100 ≤ n → n < 2 ^ 64 → decimal n ≡ decimal (n / 100) ++ pair (n % 100)
 decimal_pair n lo hi =
     let a : n / 10 / 10 ≡ n / 100 = omega arith in

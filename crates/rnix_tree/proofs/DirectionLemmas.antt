@@ -6,7 +6,7 @@ use Rattle.{rnix_green.{specs.Relatives.{IsLast, IsSibling}, proofs.NumberTests.
 use Rattle.rnix_tree.specs.{Siblings.{siblings_of, siblings_if, IsBeside}, declared.siblings.Direction.{Direction, TheVariants.{Next, Prev}}}
 use Rattle.rnix_tree.proofs.{CountLemmas.counted-many, AncestorLemmas.counted_more}
 
--- equal parents pass the test, and others fail it
+-- equal parents pass the test, and others do not
 pub same_passes : (p q : Option ℕ) → p ≡ q → same_parent p q ≡ true
 same_passes None None e = refl
 same_passes None (Some q) e = absurd (cc)
@@ -19,12 +19,12 @@ passes_same None (Some q) e = absurd (cc)
 passes_same (Some p) None e = absurd (cc)
 passes_same (Some p) (Some q) e = ap Some (grind (arith, nat_tests))
 
--- a test that is not passed fails
+-- a test that is not true is false
 pub fails : (b : Bool) → ¬ (b ≡ true) → b ≡ false
 fails true h = absurd (h refl)
 fails false h = refl
 
--- the numbers of which a test tells, upwards and downwards
+-- the numbers that pass a test, upwards and downwards
 module _ (Q : ℕ → Bool) where
   none_up : (n k : ℕ) → ((m : ℕ) → n ≤ m → m < n + k → Q m ≡ false) → filter Q (counted n k) ≡ []
   none_up n zero h = refl
@@ -71,7 +71,7 @@ module _ (t : Tree) (n : ℕ) (l : n < length (items_of t)) where
   abbrev here : Located
   here = record { tree = t; number = n }
 
-  -- the test says who is a sibling
+  -- an element that is no sibling does not pass the test
   not_beside : (m : ℕ) → m < length (items_of t) → ¬ IsSibling here m → is_beside here m ≡ false
   not_beside m there h =
       fails (is_beside here m) (λ e. h record { is_there = there; parent = passes_same (item t m).parent (item t n).parent e })
@@ -83,7 +83,7 @@ module _ (t : Tree) (n : ℕ) (l : n < length (items_of t)) where
   alike : (r : ℕ) → IsSibling here r → is_beside here ≡ is_beside record { tree = t; number = r }
   alike r h = ap (λ p m. same_parent (item t m).parent p) (sym h.parent)
 
-  -- after the element come its siblings from the next on
+  -- the element and the siblings after it are the element, and those from the next sibling on
   step_next : (next : Option ℕ) → IsFirst (IsSibling here) n next → siblings_of Next here ≡ spot_at t n ∷ siblings_if Next t next
   step_next None h =
       let end = length (items_of t) in
@@ -100,7 +100,7 @@ module _ (t : Tree) (n : ℕ) (l : n < length (items_of t)) where
       ∙ ap (λ j. filter (is_beside here) (counted j (end - j))) far
       ∙ ap (λ Q. filter Q (counted r (end - r))) (alike r h.1)))
 
-  -- before it those from the previous on
+  -- the element and the siblings before it are the element, and those from the previous sibling on
   step_prev : (next : Option ℕ) → IsLast (IsSibling here) n next → siblings_of Prev here ≡ spot_at t n ∷ siblings_if Prev t next
   step_prev None h =
       ap (map (spot_at t)) (meet_down (is_beside here) n itself
@@ -111,7 +111,7 @@ module _ (t : Tree) (n : ℕ) (l : n < length (items_of t)) where
       (skip_down (is_beside here) n r h.0 (λ m low high. not_beside m (omega arith) (h.2 m low high))
       ∙ ap (λ Q. filter Q (numbers_below (suc r))) (alike r h.1)))
 
-  -- one step of a walk along siblings
+  -- one step along siblings in either direction
   pub sibling_step : (direction : Direction) (next : Option ℕ) → IsBeside direction here next
       → siblings_of direction here ≡ spot_at t n ∷ siblings_if direction t next
   sibling_step Next next h = step_next next h
@@ -121,7 +121,7 @@ length-numbers_below : (k : ℕ) → length (numbers_below k) ≡ k
 length-numbers_below zero = refl
 length-numbers_below (suc k) = ap suc (length-numbers_below k)
 
--- no more siblings than elements
+-- an element has at most as many siblings as the tree has elements
 pub siblings_of-few : (direction : Direction) (e : Located) → e.number < length (items_of e.tree) → length (siblings_of direction e) ≤ length (items_of e.tree)
 siblings_of-few Next e l =
     let numbers = counted e.number (length (items_of e.tree) - e.number) in

@@ -1,4 +1,4 @@
--- What the walk over an element prints is its lines.
+-- A walk over an element prints the element's lines.
 use Rattle.std.proofs.Common.{◌≡◌, ℕ, ◌+◌, ◌-◌, ◌≤◌, ◌<◌, ◌^◌, nat_lt, true≢false, List, [], ◌∷◌, ◌++◌, length, map, get_or, true, false, Option, Some, None}
 use Rattle.std.proofs.{Common.{refl, ap, sym, subst, ◌∙◌, arith, inl, inr, append_assoc, append-nil}, lemmas.{Bool.cases_lt, List.map-append}}
 use Rattle.{std.specs.Prelude.if◌then◌else◌, rnix_kinds.specs.declared.kinds.SyntaxKind.SyntaxKind, rnix_green.specs.Forest.{Forest, empty, leaf, node}}
@@ -9,7 +9,7 @@ use Rattle.rnix_tree.specs.{Spots.{event_of, spot_of, located_of}, declared.elem
 use Rattle.rnix_tree.specs.{declared.element.WalkEvent.TheVariants.Enter, Lines.{line_of, lines_from, lines_of}, Walked.{event_lines, entered_in, IsNested}}
 use Rattle.rnix_tree.proofs.ItemsAt.{HasItemsAt, first_item, front_items, back_items}
 
--- what an element's events print, around those of what is inside it
+-- the events of an element print its line, and the lines of what is inside it
 around : (t : Tree) (n : ℕ) (i : Item) (depth : ℕ) (inside : List Event) (more : List Event) (lines : List ℕ) → item t n ≡ i
     → event_lines (depth + 1) (inside ++ event_at t (false, n) ∷ more) ≡ lines ++ event_lines (depth + 1) (event_at t (false, n) ∷ more)
     → event_lines depth (event_at t (true, n) ∷ (inside ++ event_at t (false, n) ∷ more))
@@ -19,7 +19,7 @@ around t n i depth inside more lines e h =
     ap (λ (x : Item). line_of depth x.kind record { start = x.start; end = x.end } ++ event_lines (depth + 1) (inside ++ event_at t (false, n) ∷ more)) e
     ∙ ap (λ x. line_of depth i.kind record { start = i.start; end = i.end } ++ x) (h ∙ ap (λ x. lines ++ event_lines x more) d)
 
--- the lines of a forest that begins with a node, in front of others
+-- the lines of a forest that begins with a node
 node_lines : (depth s : ℕ) (k : SyntaxKind) (c f : Forest) (more : List ℕ) → lines_from depth s (node k c f) ++ more
     ≡ line_of depth k record { start = s; end = s + length (text_of c) }
     ++ (lines_from (depth + 1) s c ++ (lines_from depth (s + length (text_of c)) f ++ more))
@@ -61,7 +61,7 @@ walk_lines t n s p (node k c f) depth more h =
     (back_items t (n + 1) (n + 1 + element_count c) xs ys (ap (λ x. n + 1 + x) (length-items_from (n + 1) s (Some n) c)) below))
     ∙ sym (node_lines depth s k c f (event_lines depth more))
 
--- the start of an element that is there is where its part begins
+-- an element of a tree starts where its part does
 start_is : (e : Located) (there : e.number < length (items_of e.tree)) → (part_there e.tree e.number there).start ≡ (item_of e).start
 start_is e there = go (part_at e) (part_there e.tree e.number there) (one_there e.tree e.number there)
   where
@@ -75,7 +75,7 @@ start_is e there = go (part_at e) (part_there e.tree e.number there) (one_there 
         sym (ap (λ (i : Item). i.start) (item_of_part e.tree e.number e.number (node k c empty) h (omega arith) (omega arith)
         ∙ ap (λ j. get_or (items_from e.number h.start h.parent (node k c empty)) j no_item) z))
 
--- no element has a number beyond the forest
+-- the part of a number beyond the forest is empty
 absent_part : (m n : ℕ) (f : Forest) → n + element_count f ≤ m → part_of m n f ≡ empty
 absent_part m n empty h = refl
 absent_part m n (leaf k t f) h =
@@ -107,7 +107,7 @@ walk_prints e = elim (cases_lt e.number (length (items_of e.tree))) [ inl there 
         let none : part_at e ≡ empty = absent_part e.number 0 (forest_of e.tree) (omega arith) in
         ap (λ f. event_lines 0 (map (event_at e.tree) (steps_from e.number f))) none ∙ sym (ap (λ f. lines_from 0 (item_of e).start f) none)
 
--- what two lists of events enter is the sum
+-- two joined lists of events enter as many elements as both
 entered_in-append : (xs ys : List Event) → entered_in (xs ++ ys) ≡ entered_in xs + entered_in ys
 entered_in-append [] ys = omega arith
 entered_in-append (x ∷ xs) ys = let more = entered_in-append xs ys in omega (arith, more)
@@ -126,7 +126,7 @@ enters_all t n (node k c f) =
     let behind : entered_in outer ≡ element_count f = enters_all t (n + 1 + element_count c) f in
     whole ∙ ap (λ x. 1 + (x + (0 + entered_in outer))) below ∙ ap (λ x. 1 + (element_count c + (0 + x))) behind ∙ omega arith
 
--- the walk over a forest leaves each element below the depth at which it began
+-- a walk over a forest returns to the depth at which it began
 walk_nested : (t : Tree) (n : ℕ) (f : Forest) (depth : ℕ) (more : List Event) → IsNested depth more → IsNested depth (map (event_at t) (steps_from n f) ++ more)
 walk_nested t n empty depth more h = h
 walk_nested t n (leaf k u f) depth more h =
@@ -148,7 +148,7 @@ walk_nested t n (node k c f) depth more h =
           ((λ _. omega arith), subst (λ (x : ℕ). IsNested x (outer ++ more)) back (walk_nested t (n + 1 + element_count c) f depth more h))),
     )
 
--- a walk begins at depth zero, and the depths of its events fit a number
+-- a walk begins at depth zero, and its depths fit a number
 pub begun : (e : Located) (remaining : List Event) → remaining ≡ preorder_of e → element_count (part_at e) < 2 ^ 64
     → (0 + entered_in remaining < 2 ^ 64) × IsNested 0 remaining
 begun e remaining is h =
@@ -157,12 +157,12 @@ begun e remaining is h =
       subst (IsNested 0) (append-nil (preorder_of e) ∙ sym is) (walk_nested e.tree e.number (part_at e) 0 [] tt),
     )
 
--- an element's spot has its place
+-- the spot of an element has its place
 located_is : (e : NodeOrToken Located Located) → (spot_of e).1 ≡ located_of e
 located_is (Node e) = refl
 located_is (Token e) = refl
 
--- an element is entered: its line follows the lines so far
+-- when an element is entered, its line follows the lines so far
 pub entered : (bs all : List ℕ) (depth next : ℕ) (remaining rest : List Event) (event : WalkEvent (NodeOrToken Located Located))
     (e : NodeOrToken Located Located)
     → bs ++ event_lines depth remaining ≡ all → remaining ≡ event_of event ∷ rest → event ≡ Enter e → next ≡ depth + 1
@@ -176,7 +176,7 @@ entered bs all depth next remaining rest event e h steps is deeper =
     ∙ ap (λ x. bs ++ event_lines depth x) (sym steps)
     ∙ h
 
--- what is left of a walk keeps its depths
+-- the rest of a walk keeps its depths
 pub deeper : (depth : ℕ) (remaining rest : List Event) (event : WalkEvent (NodeOrToken Located Located)) (e : NodeOrToken Located Located)
     → (depth + entered_in remaining < 2 ^ 64) × IsNested depth remaining → remaining ≡ event_of event ∷ rest → event ≡ Enter e
     → (depth + 1 + entered_in rest < 2 ^ 64) × IsNested (depth + 1) rest
@@ -186,7 +186,7 @@ deeper depth remaining rest event e h steps is =
     let nested : IsNested depth (event_of (Enter e) ∷ rest) = subst (IsNested depth) here h.1 in
     (omega arith, nested.1)
 
--- no event is left: the lines so far are those of the element
+-- when no event is left, the lines so far are those of the element
 pub finished : (e : Located) (bs : List ℕ) (depth : ℕ) (remaining : List Event) → bs ++ event_lines depth remaining ≡ event_lines 0 (preorder_of e)
     → remaining ≡ []
     → bs ≡ lines_of e

@@ -1,4 +1,4 @@
--- What the walk over an element prints with texts is its lines with texts.
+-- A walk over an element prints the element's lines with texts.
 use Rattle.std.proofs.Common.{◌≡◌, ℕ, ◌+◌, ◌-◌, List, [], ◌∷◌, ◌++◌, map, true, false, codes, Option, Some, None, Result, refl, ap, sym, subst, ◌∙◌, arith}
 use Rattle.std.{proofs.{Common.{append_assoc, append-nil, IfSome, IsOk}, lemmas.List.map-append, Output.has_written_styled_append}, specs.Fmt.{◌++?◌, IsFlush}}
 use Rattle.std.specs.Fmt.{IsPlainFormatter, DisplaysOnOk, DisplaysStyledOnOk, HasWrittenStyled, WritesStyledOnOk, WritesInCalls, formatter_writer}
@@ -8,7 +8,7 @@ use Rattle.{rnix_green.specs.Walk.{Event, steps_from, spot_at, event_at, preorde
 use Rattle.rnix_tree.specs.{declared.element.{NodeOrToken.NodeOrToken, WalkEvent.{WalkEvent, TheVariants.Enter}}, Lines.{text_line, text_lines_from}}
 use Rattle.rnix_tree.specs.{Lines.text_lines_of, Walked.event_texts}
 
--- texts that may be unknown, one after another
+-- an empty text in front of a text that may be unknown
 pub nothing_first : (o : Option (List ℕ)) → Some [] ++? o ≡ o
 nothing_first None = refl
 nothing_first (Some a) = refl
@@ -55,7 +55,7 @@ walk_prints : (e : Located) → event_texts 0 (preorder_of e) ≡ text_lines_of 
 walk_prints e =
     ap (event_texts 0) (sym (append-nil (preorder_of e))) ∙ walk_texts e.tree e.number (part_at e) 0 [] ∙ nothing_last (text_lines_of e)
 
--- an element is entered: its line follows the lines so far
+-- when an element is entered, its line follows the lines so far
 pub entered : (o all : Option (List ℕ)) (depth next : ℕ) (remaining rest : List Event) (event : WalkEvent (NodeOrToken Located Located))
     (e : NodeOrToken Located Located)
     → o ++? event_texts depth remaining ≡ all → remaining ≡ event_of event ∷ rest → event ≡ Enter e → next ≡ depth + 1
@@ -67,7 +67,7 @@ entered o all depth next remaining rest event e h steps is deeper =
     ∙ ap (λ x. o ++? event_texts depth x) (sym steps)
     ∙ h
 
--- an element is left: the lines stay
+-- when an element is left, the lines stay as they are
 pub remaining_behind : (o all : Option (List ℕ)) (depth next : ℕ) (remaining rest : List Event) (event : Event)
     → o ++? event_texts depth remaining ≡ all → remaining ≡ event ∷ rest → event.0 ≡ false → next ≡ depth - 1 → o ++? event_texts next rest ≡ all
 remaining_behind o all depth next remaining rest (true, spot) h steps is back = absurd (cc)
@@ -75,7 +75,7 @@ remaining_behind o all depth next remaining rest (false, spot) h steps is back =
     ap (λ x. o ++? event_texts x rest) back ∙ ap (λ x. o ++? x) (sym (nothing_first (event_texts (depth - 1) rest)))
     ∙ ap (λ x. o ++? event_texts depth x) (sym steps) ∙ h
 
--- no event is left: the lines so far are those of the element
+-- when no event is left, the lines so far are those of the element
 pub finished : (e : Located) (o : Option (List ℕ)) (depth : ℕ) (remaining : List Event) → o ++? event_texts depth remaining ≡ event_texts 0 (preorder_of e)
     → remaining ≡ []
     → o ≡ text_lines_of e
@@ -90,7 +90,7 @@ written_more took f g h r (Some x) None a b ok flush = tt
 written_more took f g h r (Some x) (Some y) a b ok flush =
     let front = a flush in has_written_styled_append took f x g y h front (b front.flush ok)
 
--- what an inline text took in calls is after what it had
+-- an inline text that was written to in several calls has these parts after what it had
 folded : {n : ℕ} (w v : InlineText n) (parts : List (List ℕ)) → FoldsTo AppendsIfIntact w parts v → IsIntact w → IsIntact v
     × (inline_text v ≡ inline_text w ++ concat parts)
 folded w v [] h intact = (subst IsIntact h intact, sym (ap inline_text h) ∙ sym (append-nil (inline_text w)))
@@ -99,11 +99,11 @@ folded w v (x ∷ parts) h intact =
     let rest = folded h.0 v parts h.2 first.0 in
     (rest.0, rest.1 ∙ ap (λ t. t ++ concat parts) first.1 ∙ append_assoc (inline_text w) x (concat parts))
 
--- so is all that was written
+-- so it has for everything that was written
 pub inline_written : {n : ℕ} (w v : InlineText n) (bs : List ℕ) → WritesInCalls AppendsIfIntact w bs v → IsIntact w → inline_text v ≡ inline_text w ++ bs
 inline_written w v bs h intact = (folded w v h.parts h.calls intact).1 ∙ ap (λ x. inline_text w ++ x) h.whole
 
--- what a formatter over an empty inline text wrote is what it has
+-- what a formatter wrote to an empty inline text is the inline text's content
 pub inline_text_written : {n : ℕ} (f g : Formatter (InlineText n)) (r : Result (Unit {0}) Error) (o : Option (List ℕ)) (v : InlineText n) → IsPlainFormatter f
     → IsIntact f.writer
     → inline_text f.writer ≡ [] → IsOk r → DisplaysOnOk AppendsIfIntact f r o g → v ≡ formatter_writer g → IfSome o (λ bs. inline_text v ≡ bs)
@@ -111,7 +111,7 @@ inline_text_written f g r None v plain intact none ok h is = tt
 inline_text_written f g r (Some bs) v plain intact none ok h is =
     ap inline_text is ∙ inline_written f.writer g.writer bs (h plain ok).wrote intact ∙ ap (λ x. x ++ bs) none
 
--- an indent, what is shown if that is known, and the end of the line
+-- a line is an indent, what is shown if that is known, and a line feed
 pub line_written : {W : Type 0} (took : W → List ℕ → W → Type 0) (f g h k : Formatter W) (r s u : Result (Unit {0}) Error) (indent text : List ℕ)
     (o : Option (List ℕ))
     → IfSome o (λ bs. text ≡ bs) → WritesStyledOnOk took f r indent g → IsOk r → WritesStyledOnOk took g s text h → IsOk s

@@ -1,4 +1,4 @@
--- What comes after an element is entered, in a walk over a forest.
+-- What follows when a walk over a forest enters an element.
 use Rattle.std.proofs.Common.{◌≡◌, ℕ, ◌+◌, ◌-◌, ◌≤◌, ◌<◌, nat_lt, ◌∷◌, ◌++◌, length, true, false, Option, Some, refl, ap, sym, ◌∙◌, subst, arith, inl, inr}
 use Rattle.{std.{proofs.lemmas.Bool.cases_lt, specs.Prelude.if◌then◌else◌}, rnix_green.specs.Forest.{Forest, empty, leaf, node, text_of, element_count}}
 use Rattle.rnix_green.{specs.{Tree.Item, Walk.steps_from}, proofs.{NumberTests.{below_true, below_false, same_choice}, SiblingLemmas.below_fits}}
@@ -6,7 +6,7 @@ use Rattle.rnix_tree.{specs.Cursor.{from_enter, from_leave}, proofs.WalkSiblings
 use Rattle.rnix_tree.proofs.WalkSiblings.{enter_next, enter_here, leave_inside, leave_behind, leave_next, leave_leaf, leave_node, none_from_count, append_choice}
 use Rattle.rnix_tree.proofs.WalkSiblings.{either}
 
--- what comes after an element is entered: it is left if nothing is inside it, or else what is inside it is entered
+-- the walk then enters what is inside the element, or leaves the element if nothing is
 pub enter_step : (n s : ℕ) (p : Option ℕ) (f : Forest) (m : ℕ) → n ≤ m → m < n + element_count f
     → from_enter m n f ≡ (true, m) ∷ (if nat_lt 0 (at n s p f m).below then from_enter (m + 1) n f else from_leave m n f)
 enter_step n s p empty m l h = absurd (omega arith)

@@ -5,7 +5,7 @@ use Rattle.rnix_green.proofs.InsideLemmas.{below_parent, first_child_of, sibling
 use Rattle.rnix_tree.{specs.Siblings.{is_beside, numbers_below, index_of}, proofs.{CoveringLemmas.ends_before, RelativeLemmas.{not_beside, root_alone}}}
 use Rattle.rnix_tree.proofs.DirectionLemmas.{same_passes, passes_same, fails, none_down, skip_down, meet_down}
 
--- siblings are counted up to one before the element n, or up to n
+-- the siblings up to `sibling`, which is before element `n` or is it, have been counted
 pub record IsCounted (t : Tree) (n p sibling index : ℕ) : Type 0 where
   pub here : IsChild record { tree = t; number = p } sibling
   pub low : sibling ≤ n
@@ -13,7 +13,7 @@ pub record IsCounted (t : Tree) (n p sibling index : ℕ) : Type 0 where
   pub fewer : index ≤ sibling
 
 module _ (t : Tree) (n p : ℕ) (l : n < length (items_of t)) (e : (item t n).parent ≡ Some p) where
-  -- what has another parent is no sibling
+  -- an element with another parent is no sibling
   elsewhere : (m : ℕ) → ((item t m).parent ≡ Some p → ⊥) → is_beside record { tree = t; number = n } m ≡ false
   elsewhere m h = fails (is_beside record { tree = t; number = n } m) (λ same. h (passes_same (item t m).parent (item t n).parent same ∙ e))
 

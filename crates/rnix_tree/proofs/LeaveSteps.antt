@@ -1,4 +1,4 @@
--- What comes after an element is left, in a walk over a forest.
+-- What follows when a walk over a forest leaves an element.
 use Rattle.std.proofs.Common.{◌≡◌, ℕ, ◌+◌, ◌-◌, ◌≤◌, ◌<◌, nat_lt, [], ◌∷◌, ◌++◌, length, false, Option, Some, refl, ap, sym, ◌∙◌, subst, arith, ◌⊎◌, inl, inr}
 use Rattle.{std.{proofs.lemmas.Bool.cases_lt, specs.Prelude.if◌then◌else◌}, rnix_kinds.specs.declared.kinds.SyntaxKind.SyntaxKind}
 use Rattle.rnix_green.{specs.{Forest.{Forest, empty, leaf, node, text_of, element_count}, Walk.steps_from}, proofs.NumberTests.{below_true, below_false}}
@@ -6,13 +6,13 @@ use Rattle.{rnix_green.proofs.{NumberTests.same_choice, SiblingLemmas.below_fits
 use Rattle.rnix_tree.proofs.WalkSiblings.{at_inside, at_behind, at_next, at_first, enter_inside, enter_behind, enter_next, enter_here, leave_inside, leave_behind}
 use Rattle.rnix_tree.proofs.WalkSiblings.{leave_next, leave_leaf, leave_node, none_from_count, append_choice, either}
 
--- what comes after an element of a forest's first depth is left
+-- what follows when the walk leaves one of the trees of the forest
 pub record LeavesTop (n s : ℕ) (p : Option ℕ) (f : Forest) (m : ℕ) : Type 0 where
   pub parent : (at n s p f m).parent ≡ p
   pub step : from_leave m n f
       ≡ (false, m) ∷ (if nat_lt (m + 1 + (at n s p f m).below) (n + element_count f) then from_enter (m + 1 + (at n s p f m).below) n f else [])
 
--- what comes after an element with a parent in the forest is left
+-- what follows when the walk leaves an element with a parent in the forest
 pub record LeavesInside (n s : ℕ) (p : Option ℕ) (f : Forest) (m : ℕ) : Type 0 where
   pub outer : ℕ
   pub parent : (at n s p f m).parent ≡ Some outer
@@ -22,7 +22,7 @@ pub record LeavesInside (n s : ℕ) (p : Option ℕ) (f : Forest) (m : ℕ) : Ty
       ≡ (false, m) ∷ (if nat_lt (m + 1 + (at n s p f m).below) (outer + 1 + (at n s p f outer).below)
       then from_enter (m + 1 + (at n s p f m).below) n f else from_leave outer n f)
 
--- the same forest after something else
+-- the same forest, after other trees
 record IsLater (n s n' s' : ℕ) (p : Option ℕ) (g f : Forest) : Type 0 where
   pub start : n < n'
   pub ends : n' + element_count f ≡ n + element_count g
@@ -67,7 +67,7 @@ later_inside n s n' s' p g f m a l h =
           (m + 1 + (at n s p g m).below) n g else x)) (sym (a.leaves h.outer h.low));
     }
 
--- an element right below a node
+-- leaving a child of a node
 pub inside_top : (n s : ℕ) (p : Option ℕ) (k : SyntaxKind) (c f : Forest) (m : ℕ) → n < m → m < n + 1 + element_count c → LeavesTop (n + 1) s (Some n) c m
     → LeavesInside n s p (node k c f) m
 inside_top n s p k c f m l u h =
@@ -91,7 +91,7 @@ inside_top n s p k c f m l u h =
           (λ _. sym (leave_node n n k c f refl)));
     }
 
--- an element deeper inside a node
+-- leaving an element deeper inside a node
 pub inside_inside : (n s : ℕ) (p : Option ℕ) (k : SyntaxKind) (c f : Forest) (m : ℕ) → n < m → m < n + 1 + element_count c → LeavesInside (n + 1) s (Some n) c m
     → LeavesInside n s p (node k c f) m
 inside_inside n s p k c f m l u h =
@@ -123,7 +123,7 @@ inside_inside n s p k c f m l u h =
           (λ _. sym (leave_inside h.outer n k c f (omega arith) (omega arith))));
     }
 
--- the first element of a forest is left, and then comes what follows it
+-- after the first tree of a forest is left, the trees after it follow
 first_remaining : (n n' s : ℕ) (p : Option ℕ) (g f : Forest) (b : ℕ) → (at n s p g n).below ≡ b → n + 1 + b ≡ n' → n' + element_count f ≡ n + element_count g
     → (0 < element_count f → from_enter n' n g ≡ steps_from n' f)
     → steps_from n' f ≡ (if nat_lt (n + 1 + (at n s p g n).below) (n + element_count g) then from_enter (n + 1 + (at n s p g n).below) n g else [])
@@ -134,7 +134,7 @@ first_remaining n n' s p g f b e d ends enters =
     sym (ap (λ x. from_enter x n g) next ∙ enters (omega arith)))
     (λ h. let l : n + element_count g ≤ n + 1 + (at n s p g n).below = below_false _ _ h in none_from_count f n' (omega arith))
 
--- what comes after an element of a forest is left
+-- leaving any element of a forest
 pub leave_step : (n s : ℕ) (p : Option ℕ) (f : Forest) (m : ℕ) → n ≤ m → m < n + element_count f → LeavesTop n s p f m ⊎ LeavesInside n s p f m
 leave_step n s p empty m l h = absurd (omega arith)
 leave_step n s p (leaf k t f) m l h =

@@ -3,12 +3,12 @@ use Rattle.std.proofs.Common.{◌≡◌, ℕ, zero, suc, ◌+◌, ◌-◌, ◌*�
 use Rattle.std.proofs.{Common.{Option, arith, ◌^◌, append_assoc}, KnownBytes.Appends-trans, lemmas.List.{drop-set, length-set, length-drop, take_all}}
 use Rattle.{std.{proofs.lemmas.Fmt.length-decimal-le, specs.{Prelude.decimal, Io.KnownBytes.Appends}}, rnix_tree.specs.Lines.indent}
 
--- the indent of a sum is both indents
+-- the indent of a sum is the two indents
 pub indent_sum : (m n : ℕ) → indent (m + n) ≡ indent m ++ indent n
 indent_sum zero n = let none : zero + n ≡ n = omega arith in ap indent none
 indent_sum (suc m) n = let more : suc m + n ≡ suc (m + n) = omega arith in ap indent more ∙ ap (λ x. codes "  " ++ x) (indent_sum m n)
 
--- fewer levels are the front of more
+-- the indent of fewer levels is the beginning of that of more
 pub indent_front : (n m : ℕ) → n ≤ m → take (2 * n) (indent m) ≡ indent n
 indent_front zero m h = refl
 indent_front (suc n) zero h = absurd (omega arith)
@@ -20,7 +20,7 @@ indent_front (suc n) (suc m) h =
 pub appends_then : (a b c : Option (List ℕ)) (bs cs ds : List ℕ) → Appends a b bs → Appends b c cs → ds ≡ bs ++ cs → Appends a c ds
 appends_then a b c bs cs ds p q e = subst (Appends a c) (sym e) (Appends-trans a b c bs cs p q)
 
--- a byte that is written in front of others
+-- setting the byte before some others puts it in front of these
 pub in_front : (xs more : List ℕ) (i : ℕ) (b : ℕ) → i < length xs → drop (i + 1) xs ≡ more → drop i (set xs i b) ≡ b ∷ more
 in_front xs more i b h e = drop-set xs i b h ∙ ap (λ ys. b ∷ ys) e
 
@@ -28,7 +28,7 @@ in_front xs more i b h e = drop-set xs i b h ∙ ap (λ ys. b ∷ ys) e
 pub decimal_short : (n : ℕ) → n < 2 ^ 64 → length (decimal n) ≤ 20
 decimal_short n h = length-decimal-le 20 n (omega arith) (omega arith) h
 
--- what is written of a range from its end on, in 44 bytes, the last of which ends the line
+-- what is written of a range, backwards into 44 bytes, of which the last is the line feed
 pub range_bytes : (s e bs ds : List ℕ) (p q : ℕ) → length bs ≡ 44 → length ds ≡ 44 → p + length e ≡ 43 → q + length s ≡ p - 2 → 2 < p → 0 < q
     → drop p bs ≡ e ++ 10 ∷ [] → drop q ds ≡ s ++ drop (p - 2) (set (set bs (p - 1) 46) (p - 2) 46)
     → take (44 - (q - 1)) (drop (q - 1) (set ds (q - 1) 64)) ≡ codes "@" ++ (s ++ codes ".." ++ e) ++ codes "\n"

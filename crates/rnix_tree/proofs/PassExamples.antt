@@ -1,4 +1,4 @@
--- Siblings that walks pass, in small trees; by computation.
+-- Siblings that walks pass in small trees, by computation.
 use Rattle.std.proofs.Common.{◌≡◌, ◌<◌, ℕ, List, [], ◌∷◌, map, codes, true, false, refl, arith}
 use Rattle.std.{proofs.lemmas.List.Elements.{All-nil, All-cons}, specs.List.All}
 use Rattle.rnix_kinds.specs.declared.kinds.SyntaxKind.TheVariants as k
@@ -31,7 +31,7 @@ the_bracket_ends = refl
 the_name_ends : siblings_before 4 0 (events_remaining ab 0 (Enter 1)) ≡ events ((true, 1) ∷ (false, 1) ∷ (true, 2) ∷ (true, 3) ∷ (false, 3) ∷ (false, 2) ∷ [])
 the_name_ends = refl
 
--- from the name on, or where the list is left next
+-- the siblings from the name on; and none, if the list is left next
 from_the_name : siblings_before 4 0 (events_remaining ab 0 (Enter 2)) ≡ events ((true, 2) ∷ (true, 3) ∷ (false, 3) ∷ (false, 2) ∷ [])
 from_the_name = refl
 

@@ -1,4 +1,4 @@
--- What comes of passing siblings in walks.
+-- The results of passing siblings in two walks.
 use Rattle.std.proofs.Common.{◌≡◌, ℕ, ◌+◌, ◌-◌, ◌≤◌, ◌<◌, List, [], length, map, ap, sym, ◌∙◌, subst, arith}
 use Rattle.rnix_green.specs.{Tree.{Tree, items_of, item}, Walk.Event}
 use Rattle.rnix_tree.specs.declared.{sibling_range.SiblingRange.SiblingRange, walk.Next.{Next, TheVariants.{Enter}}}
@@ -8,14 +8,14 @@ use Rattle.rnix_tree.specs.WalksAlike.{shown_of, siblings_before, BeginsAlike, H
 use Rattle.rnix_tree.proofs.{SiblingWalks.{SiblingForest, sibling_forest, enters_next}, ShownSiblings.IsStop}
 use Rattle.rnix_tree.proofs.PassedSiblings.{not_entering, reached_end, none_passed, some_passed, not_entered, alike_passed, passed_alike}
 
--- a walk enters an element next, which begins a forest
+-- the walk enters an element next, with which a forest of siblings begins
 pub record EntersSiblings (t : Tree) (root x : ℕ) (siblings : SiblingRange) (a : List Event) : Type 0 where
   pub there : root < length (items_of t)
   pub sibling_trees : SiblingForest t root siblings
   pub first : siblings.first ≡ x
   pub starts : events_remaining t root (after_siblings siblings siblings.first) ≡ a
 
--- so where it is about to
+-- this holds if the next event enters an element
 pub enters_siblings : (t : Tree) (root x : ℕ) (siblings : SiblingRange) (next : Next) (a : List Event) → root < length (items_of t) → IsNextWithin t root next
     → next ≡ Enter x
     → siblings ≡ siblings_at t root x → events_remaining t root next ≡ a → EntersSiblings t root x siblings a
@@ -31,40 +31,40 @@ enters_siblings t root x siblings next a there inside entered is remaining =
           ∙ sym entered) ∙ remaining;
     }
 
--- a walk that enters none next passes none
+-- a walk that does not enter an element next passes no siblings
 pub passes_none : (t : Tree) (root : ℕ) (next : Next) (a : List Event) (offset : ℕ) → root < length (items_of t) → IsNextWithin t root next
     → ((m : ℕ) → next ≡ Enter m → ⊥) → events_remaining t root next ≡ a → siblings_before offset 0 a ≡ []
 passes_none t root next a offset there inside other remaining =
     subst (λ es. siblings_before offset 0 es ≡ []) remaining (not_entering t root next offset there inside other).0
 
--- and stops
+-- such a walk leaves an element next, or ends
 pub stops_next : (t : Tree) (root : ℕ) (next : Next) (a : List Event) → root < length (items_of t) → IsNextWithin t root next
     → ((m : ℕ) → next ≡ Enter m → ⊥) → events_remaining t root next ≡ a → IsStop (map shown_of a)
 stops_next t root next a there inside other remaining =
     subst (λ es. IsStop (map shown_of es)) remaining (not_entering t root next 0 there inside other).1
 
--- the elements of a forest are there
+-- the elements of the forest are elements of the tree
 pub siblings_there : (t : Tree) (root x : ℕ) (siblings : SiblingRange) (a : List Event) → EntersSiblings t root x siblings a
     → siblings.end ≤ length (items_of t)
 siblings_there t root x siblings a e = omega (arith, e.sibling_trees.counted, e.sibling_trees.is.there)
 
 module _ (t : Tree) (root x : ℕ) (siblings : SiblingRange) (a : List Event) (e : EntersSiblings t root x siblings a) (n offset : ℕ)
     (reached : IsReached t siblings.end offset siblings.first n) (late : n < siblings.end → offset ≤ (item t n).end) where
-  -- what is reached is in the forest
+  -- the number that is reached is not before the forest
   pub reached_low : x ≤ n
   reached_low = omega (arith, (reached_end t root siblings e.sibling_trees e.there n offset reached late).0, e.first)
 
   pub reached_high : n ≤ siblings.end
   reached_high = (reached_end t root siblings e.sibling_trees e.there n offset reached late).1
 
-  -- the walk is there
+  -- the walk continues within its root
   pub within_first : IsWithin t root (after_siblings siblings n)
   within_first = record {
     root_there = e.there;
     next_inside = e.sibling_trees.within n (omega (arith, reached_low, e.first)) reached_high;
   }
 
-  -- where nothing is reached nothing is passed
+  -- if nothing is reached, no sibling is passed
   pub nothing_passed : n ≡ x → siblings_before offset 0 a ≡ []
   nothing_passed same =
       subst (λ es. siblings_before offset 0 es ≡ []) e.starts
@@ -74,19 +74,19 @@ module _ (t : Tree) (root x : ℕ) (siblings : SiblingRange) (a : List Event) (e
     some : siblings.first < n
     some = omega (arith, reached_low, e.first, apart)
 
-    -- else something is
+    -- otherwise siblings are passed
     pub something_passed : 0 < length (siblings_before offset 0 a)
     something_passed = subst (λ es. 0 < length (siblings_before offset 0 es)) e.starts
         (some_passed t root siblings e.sibling_trees e.there n offset reached late some)
 
-    -- another walk that stops does not begin so
+    -- another walk that enters no element next does not begin with these events
     pub other_stops : (before : ℕ) (b : List Event) → IsStop (map shown_of b) → BeginsAlike (siblings_before offset 0 a) before b → ⊥
     other_stops before b stop =
         subst (λ es. BeginsAlike (siblings_before offset 0 es) before b → ⊥) e.starts
         (not_entered t root siblings e.sibling_trees e.there n offset reached late some before b stop)
 
     module _ (u : Tree) (other_root y : ℕ) (other : SiblingRange) (b : List Event) (o : EntersSiblings u other_root y other b) (before : ℕ) where
-      -- walks pass what is alike
+      -- if the siblings are alike, both walks pass them
       pub both_passed : AreSiblingsAlike t siblings n u other before
           → HavePassed offset before a b (events_remaining t root (after_siblings siblings n))
           (events_remaining u other_root (after_siblings other (other.first + (n - siblings.first))))
@@ -98,14 +98,14 @@ module _ (t : Tree) (root x : ℕ) (siblings : SiblingRange) (a : List Event) (e
           (events_remaining u other_root (after_siblings other (other.first + (n - siblings.first))))) o.starts
           (alike_passed t root siblings e.sibling_trees e.there n offset reached late some u other_root other o.sibling_trees o.there before alike))
 
-      -- and nothing else
+      -- if they are not, the second walk does not begin with these events
       pub none_begins : (AreSiblingsAlike t siblings n u other before → ⊥) → BeginsAlike (siblings_before offset 0 a) before b → ⊥
       none_begins differ h =
           differ (passed_alike t root siblings e.sibling_trees e.there n offset reached late some u other_root other o.sibling_trees o.there before
           (subst (λ es. BeginsAlike (siblings_before offset 0 es) before (events_remaining u other_root (after_siblings other other.first))) (sym e.starts)
           (subst (BeginsAlike (siblings_before offset 0 a) before) (sym o.starts) h)))
 
-      -- the second walk is in its forest
+      -- the second walk continues within its root
       pub within_second : AreSiblingsAlike t siblings n u other before → IsWithin u other_root (after_siblings other (other.first + (n - siblings.first)))
       within_second alike = record {
         root_there = o.there;

@@ -1,4 +1,4 @@
--- Walks that pass siblings that are alike.
+-- Two walks that pass siblings that are alike.
 use Rattle.std.proofs.Common.{◌≡◌, ℕ, ◌+◌, ◌-◌, ◌≤◌, ◌<◌, List, [], ◌∷◌, ◌++◌, length, map, true, refl, ap, sym}
 use Rattle.std.proofs.{Common.{◌∙◌, subst, arith, inl, inr, append_assoc}, lemmas.{Bool.{cases_lt}, List.{append-nil, map-append, length-map}}}
 use Rattle.std.specs.{Prelude.{if◌then◌else◌}, List.All}
@@ -14,7 +14,7 @@ use Rattle.rnix_tree.proofs.{SameSiblings.{same_front}, WalkSiblings.none_from_c
 use Rattle.rnix_tree.proofs.ShownSiblings.{shown_from, shows, all_before, siblings_passed, ends_before, IsStop, begins_with}
 use Rattle.rnix_tree.proofs.SiblingsAlike.{ReachedSiblings, reached_siblings, alike_begins, begins_so}
 
--- a walk that does not enter an element next passes no sibling, and stops
+-- a walk that does not enter an element next passes no sibling
 pub not_entering : (t : Tree) (root : ℕ) (next : Next) (offset : ℕ) → root < length (items_of t) → IsNextWithin t root next → ((m : ℕ) → next ≡ Enter m → ⊥)
     → (siblings_before offset 0 (events_remaining t root next) ≡ []) × IsStop (map shown_of (events_remaining t root next))
 not_entering t root (Enter m) offset there inside other = absurd (other m refl)
@@ -23,7 +23,7 @@ not_entering t root (Leave m) offset there inside other =
     (ap (siblings_before offset 0) e, subst (λ es. IsStop (map shown_of es)) (sym e) refl)
 not_entering t root Done offset there inside other = (refl, tt)
 
--- no sibling is passed that does not end before the offset
+-- if the next sibling does not end before the offset, none is passed
 none_before : (t : Tree) (root m offset : ℕ) → root < length (items_of t) → IsInside t root m → offset ≤ (item t m).end
     → siblings_before offset 0 (events_remaining t root (Enter m)) ≡ []
 none_before t root m offset there inside late =
@@ -33,17 +33,17 @@ none_before t root m offset there inside late =
     ∙ ap (λ b. if b then event_at t (true, m) ∷ siblings_before offset 1 (map (event_at t) (steps_remaining t root (after_enter t m))) else [])
     (is_not_below _ _ late)
 
--- lists with the same images have the same length
+-- lists with equal images have equal lengths
 mapped_front : {X Y : Type 0} (f : X → Y) (xs ys : List X) → map f xs ≡ map f ys → length xs ≡ length ys
 mapped_front f xs ys e = sym (length-map xs f) ∙ ap length e ∙ length-map ys f
 
--- the siblings of a forest, some of which a walk passes
+-- the siblings of a forest, of which a walk passes some
 module _ (t : Tree) (root : ℕ) (siblings : SiblingRange) (r : SiblingForest t root siblings) (there : root < length (items_of t)) where
-  -- what is left of the walk at some sibling
+  -- the rest of the walk from a sibling on
   abbrev rest_at : ℕ → List Event
   rest_at n = events_remaining t root (after_siblings siblings n)
 
-  -- all of the forest is left first
+  -- the rest of the walk begins with the events of all of the forest
   whole_remaining : (f g : Forest) (n : ℕ) → r.forest ≡ join f g → siblings.first + element_count f ≡ n
       → rest_at n ≡ map (event_at t) (steps_from n g) ++ rest_at siblings.end
   whole_remaining f g n both counted =
@@ -53,7 +53,7 @@ module _ (t : Tree) (root : ℕ) (siblings : SiblingRange) (r : SiblingForest t 
   start_remaining : rest_at siblings.first ≡ map (event_at t) (steps_from siblings.first r.forest) ++ rest_at siblings.end
   start_remaining = whole_remaining empty r.forest siblings.first refl (omega arith)
 
-  -- some trees are passed
+  -- the rest of the walk after some trees is that from the next sibling on
   trees_passed : (f g : Forest) (n : ℕ) → r.forest ≡ join f g → siblings.first + element_count f ≡ n
       → rest_at siblings.first ≡ map (event_at t) (steps_from siblings.first f) ++ rest_at n
   trees_passed f g n both counted =
@@ -66,7 +66,7 @@ module _ (t : Tree) (root : ℕ) (siblings : SiblingRange) (r : SiblingForest t 
       ∙ append_assoc one two (rest_at siblings.end)
       ∙ ap (λ x. one ++ x) (sym (whole_remaining f g n both counted))
 
-  -- after the forest the walk stops
+  -- after the forest the walk leaves an element, or ends
   stops_after : IsStop (map shown_of (rest_at siblings.end))
   stops_after =
       (not_entering t root (after_siblings siblings siblings.end) 0 there (r.within siblings.end (omega (arith, r.counted)) (omega arith))
@@ -117,7 +117,7 @@ some_steps n empty l = absurd (omega (arith, l))
 some_steps n (leaf k u f) l = omega arith
 some_steps n (node k c f) l = omega arith
 
--- what is shown first of a walk that begins with events that show the same as those over a forest
+-- what a walk shows first, if it begins with events that show the same as those over a forest
 shown_first : (f : Forest) (passed : List Event) (before : ℕ) (b : List Event) (h : BeginsAlike passed before b) → map shown_of passed ≡ shown_from f
     → map shown_of b ≡ shown_from f ++ map shown_of h.remaining
 shown_first f passed before b h shown =
@@ -131,14 +131,14 @@ module _ (t : Tree) (root : ℕ) (siblings : SiblingRange) (r : SiblingForest t 
   abbrev f : Forest
   f = done.reached.siblings
 
-  -- how far the siblings reach
+  -- the number that is reached is within the siblings
   pub reached_end : (siblings.first ≤ n) × (n ≤ siblings.end)
   reached_end =
       let h = done.reached in
       let all = ap element_count h.both ∙ element_count-join h.siblings h.rest in
       (omega (arith, h.counted), omega (arith, all, h.counted, r.counted))
 
-  -- where none is reached, no sibling is passed
+  -- if nothing is reached, no sibling is passed
   pub none_passed : n ≡ siblings.first → siblings_before offset 0 (events_remaining t root (after_siblings siblings siblings.first)) ≡ []
   none_passed same =
       done.passed
@@ -154,7 +154,7 @@ module _ (t : Tree) (root : ℕ) (siblings : SiblingRange) (r : SiblingForest t 
     some_elements : 0 < element_count f
     some_elements = omega (arith, some, done.reached.counted)
 
-    -- otherwise some are passed
+    -- otherwise siblings are passed
     pub some_passed : 0 < length (siblings_before offset 0 (events_remaining t root (after_siblings siblings siblings.first)))
     some_passed =
         omega (
@@ -164,7 +164,7 @@ module _ (t : Tree) (root : ℕ) (siblings : SiblingRange) (r : SiblingForest t 
           some_steps siblings.first f some_elements,
         )
 
-    -- a walk that does not enter an element next does not begin so
+    -- a walk that does not enter an element next does not begin with these events
     pub not_entered : (before : ℕ) (b : List Event) → IsStop (map shown_of b)
         → BeginsAlike (siblings_before offset 0 (events_remaining t root (after_siblings siblings siblings.first))) before b → ⊥
     not_entered before b stop h =
@@ -173,7 +173,7 @@ module _ (t : Tree) (root : ℕ) (siblings : SiblingRange) (r : SiblingForest t 
 
     module _ (u : Tree) (other_root : ℕ) (other : SiblingRange) (o : SiblingForest u other_root other) (other_there : other_root < length (items_of u))
         (before : ℕ) where
-      -- walks over forests that are alike pass them
+      -- walks over siblings that are alike pass them
       pub alike_passed : AreSiblingsAlike t siblings n u other before
           → HavePassed offset before (events_remaining t root (after_siblings siblings siblings.first))
           (events_remaining u other_root (after_siblings other other.first))
@@ -195,7 +195,7 @@ module _ (t : Tree) (root : ℕ) (siblings : SiblingRange) (r : SiblingForest t 
             done = done.done;
           }
 
-      -- and walks that begin alike are over forests that are alike
+      -- siblings over which walks begin alike are alike
       pub passed_alike : BeginsAlike (siblings_before offset 0 (events_remaining t root (after_siblings siblings siblings.first))) before
           (events_remaining u other_root (after_siblings other other.first)) → AreSiblingsAlike t siblings n u other before
       passed_alike h =

@@ -1,9 +1,9 @@
--- When a tree has the node that a pointer keeps.
+-- When a tree has the node of a pointer.
 use Rattle.std.{proofs.{Common.{◌≡◌, ◌<◌, Bool, length, ap, sym, subst}, lemmas.Bool.Decides.{Decides-eqb, Decides-like, Decides-and}}, specs.Prelude.◌==◌}
 use Rattle.{std.specs.{Prelude.◌&&◌, Bool.Decides}, rnix_green.specs.{Equality.{same_kind, same_kind-decides}, Tree.{Tree, Item, items_of, item}}}
 use Rattle.rnix_tree.specs.Pointer.{Address, fits, HasNode}
 
--- a tree has the node of an address exactly if the element of its number fits
+-- a tree has the node of an address exactly if the element with its number fits
 pub fits-decides : (t : Tree) (a : Address) (r : Bool) → a.number < length (items_of t) → r ≡ fits (item t a.number) a → Decides r (HasNode t a)
 fits-decides t a r there is =
     let i : Item = item t a.number in

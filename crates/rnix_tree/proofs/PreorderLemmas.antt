@@ -8,7 +8,7 @@ use Rattle.rnix_tree.specs.{Cursor.{IsNextWithin, after_enter, after_leave, behi
 use Rattle.rnix_tree.proofs.{WalkSiblings.{at, enter_here, leave_leaf, leave_node}, EnterSteps.enter_step, LeaveSteps.{LeavesInside, inside_top, inside_inside}}
 use Rattle.rnix_tree.proofs.LeaveSteps.{leave_step}
 
--- the walk over a whole part
+-- the next event of a walk within a root, and how the walk continues after it
 pub record Goes (t : Tree) (root : ℕ) (here : Next) (step : Step) (next : Next) : Type 0 where
   pub step_is : steps_remaining t root here ≡ step ∷ steps_remaining t root next
   pub within : IsNextWithin t root next
@@ -17,7 +17,7 @@ split_choice : (b : Bool) (u v : Next) (x y : List Step) (f : Next → List Step
 split_choice true u v x y f g h = g
 split_choice false u v x y f g h = h
 
--- an element is entered
+-- the event that enters an element
 pub enters : (t : Tree) (root m : ℕ) → root < length (items_of t) → IsInside t root m → Goes t root (Enter m) (true, m) (after_enter t m)
 enters t root m there inside =
     let part = part_at record { tree = t; number = root } in
@@ -44,7 +44,7 @@ enters t root m there inside =
     choose true e k = k e
     choose false e k = inside
 
--- the element after which a walk from its root ends
+-- when its root is left, a walk ends
 leaves_root : (t : Tree) (root : ℕ) (part : Forest) → IsOne part → from_leave root root part ≡ (false, root) ∷ []
 leaves_root t root _ (one_leaf k u) = leave_leaf root root k u empty refl
 leaves_root t root _ (one_node k c) = leave_node root root k c empty refl
@@ -55,7 +55,7 @@ behind_root t root m (Some p) e =
     ap (λ b. if b then Done else (if nat_lt (m + 1 + (item t m).below) (p + 1 + (item t p).below) then Enter (m + 1 + (item t m).below) else Leave p))
     (is_same m root e)
 
--- the same of an element below it
+-- the step after an element below the root is the same within a root
 pub behind_inner : (t : Tree) (root m p : ℕ) → root < m → behind t root m (Some p)
     ≡ (if nat_lt (m + 1 + (item t m).below) (p + 1 + (item t p).below) then Enter (m + 1 + (item t m).below) else Leave p)
 behind_inner t root m p l =
@@ -71,7 +71,7 @@ inner_step root s p _ m (one_node k c) l h =
       | inr x ↦ inside_inside root s p k c empty m l (omega arith) x
     ]
 
--- an element is left
+-- the event that leaves an element
 pub leaves : (t : Tree) (root m : ℕ) → root < length (items_of t) → IsInside t root m → Goes t root (Leave m) (false, m) (after_leave t root m)
 leaves t root m there inside =
     elim (cases_lt root m) [ inl low ↦ inner low | inr high ↦ outer (let l : root ≤ m = inside.low in omega arith) ]
@@ -129,11 +129,11 @@ leaves t root m there inside =
         choose true e x q f g = f e
         choose false e x q f g = g
 
--- a walk begins at its root
+-- a walk is within its root at first
 pub begins : (t : Tree) (root : ℕ) → root < length (items_of t) → IsInside t root root
 begins t root l = record { low = omega arith; high = omega arith; there = l }
 
--- a walk from its root is all of it
+-- a walk from its root on is the whole walk
 pub whole_walk : (t : Tree) (root : ℕ) → root < length (items_of t)
     → from_enter root root (part_at record { tree = t; number = root }) ≡ steps_from root (part_at record { tree = t; number = root })
 whole_walk t root l = one (part_at record { tree = t; number = root }) (one_there t root l)

@@ -1,11 +1,11 @@
--- What stands beside an element and inside it.
+-- The siblings and the children of an element.
 use Rattle.std.proofs.Common.{is_some, ◌≡◌, ℕ, zero, suc, ◌+◌, ◌-◌, ◌≤◌, ◌<◌, length, Option, Some, None, true, false, refl, sym, ◌∙◌, arith, inl, inr}
 use Rattle.{std.proofs.lemmas.{Bool.cases_lt, Option.same_Some}, rnix_green.specs.{Tree.{Tree, items_of, item}, Relatives.{located, IsFirst, IsLast, IsChild}}}
 use Rattle.rnix_green.{specs.Relatives.{IsSibling, IsNodeIn, IsSiblingNode}, proofs.{SiblingLemmas.next_inside, ParentLemmas.parent_is_node}}
 use Rattle.rnix_green.proofs.{ParentLemmas.parent_is_before, InsideLemmas.{held, ends_inside, first_child_of, below_parent, sibling_behind, has_parent}}
 use Rattle.rnix_tree.specs.Around.{IsNodeIfAny, IsOnWayTo, FirstNodeFrom, LastNodeFrom}
 
--- an element inside another has another parent than it has
+-- an element inside another one is no sibling of it
 pub not_beside : (t : Tree) (n p m : ℕ) → n < length (items_of t) → (item t n).parent ≡ Some p → n < m → m ≤ n + (item t n).below → (item t m).parent ≡ Some p
     → ⊥
 not_beside t n p m l e low high same =
@@ -27,7 +27,7 @@ module _ (t : Tree) (n : ℕ) (l : n < length (items_of t)) where
   pub no_prev_of_root : (item t n).parent ≡ None → IsLast (IsSibling record { tree = t; number = n }) n None
   no_prev_of_root e m low h = (let b = root_alone t n l e in omega arith)
 
-  -- after an element and what is inside it stands its next sibling, or its parent has ended
+  -- the element after an element and everything inside it is its next sibling, if the parent contains it
   pub next_there : (p : ℕ) → (item t n).parent ≡ Some p → n + 1 + (item t n).below ≤ p + (item t p).below
       → IsFirst (IsSibling record { tree = t; number = n }) n (Some (n + 1 + (item t n).below))
   next_there p e fits =
@@ -48,14 +48,14 @@ module _ (t : Tree) (n : ℕ) (l : n < length (items_of t)) where
         | inr inside ↦ not_beside t n p m l e low inside (h.parent ∙ e)
       ]
 
-  -- no sibling comes before an element right after its parent
+  -- an element right after its parent has no previous sibling
   pub no_prev : (p : ℕ) → (item t n).parent ≡ Some p → n - 1 ≡ p → IsLast (IsSibling record { tree = t; number = n }) n None
   no_prev p e right m low h =
       let above = below_parent t m p h.is_there (h.parent ∙ e) in
       let here = below_parent t n p l e in
       omega (arith, above.low, here.low)
 
-  -- the child in which the element before lies is the previous sibling
+  -- the previous sibling of an element is the child that contains the element before it
   pub prev_there : (p child : ℕ) → (item t n).parent ≡ Some p → 0 < n → IsOnWayTo t p (n - 1) child
       → IsLast (IsSibling record { tree = t; number = n }) n (Some child)
   prev_there p child e some h =
@@ -71,7 +71,7 @@ module _ (t : Tree) (n : ℕ) (l : n < length (items_of t)) where
         λ m after before s. not_beside t child p m there h.parent after (omega (arith, h.high)) (s.parent ∙ e),
       )
 
-  -- the children of an element
+  -- the first child of an element comes right after it
   pub first_there : 0 < (item t n).below → IsFirst (IsChild record { tree = t; number = n }) n (Some (n + 1))
   first_there some =
       (omega arith, record { is_there = omega (arith, next_inside t n l); parent = first_child_of t n l some }, λ m low high h. omega arith)
@@ -85,7 +85,7 @@ module _ (t : Tree) (n : ℕ) (l : n < length (items_of t)) where
   pub no_last : (item t n).below ≡ 0 → IsLast (IsChild record { tree = t; number = n }) (length (items_of t)) None
   no_last none m low h = no_children none m h
 
-  -- the child that ends with the element is the last
+  -- the last child of an element is the one that ends with it
   pub last_there : (child : ℕ) → IsOnWayTo t n (n + (item t n).below) child
       → IsLast (IsChild record { tree = t; number = n }) (length (items_of t)) (Some child)
   last_there child h =
@@ -97,13 +97,13 @@ module _ (t : Tree) (n : ℕ) (l : n < length (items_of t)) where
             (omega (arith, h.high, in_n.high)) s.parent,
       )
 
--- climbing from an element towards one around it
+-- climbing from an element inside `p` towards `p`
 pub record IsClimbing (t : Tree) (p m child : ℕ) : Type 0 where
   pub above : p < child
   pub low : child ≤ m
   pub high : m ≤ child + (item t child).below
 
--- the element is inside p, so its parent is p or inside p
+-- the parent of an element inside `p` is `p` or inside `p`
 pub climb_step : (t : Tree) (p m child above : ℕ) → p < length (items_of t) → m ≤ p + (item t p).below → IsClimbing t p m child
     → (item t child).parent ≡ Some above → ¬ (above ≡ p)
     → IsClimbing t p m above
@@ -124,7 +124,7 @@ climb_step t p m child above l high h e differs =
     apart : (p q : ℕ) → p ≤ q → ¬ (q ≡ p) → p < q
     apart p q l d = elim (cases_lt p q) [ inl less ↦ less | inr more ↦ absurd (d (omega arith)) ]
 
--- an element inside p has a parent
+-- an element inside `p` has a parent
 pub climb_goes : (t : Tree) (p m child : ℕ) → p < length (items_of t) → m ≤ p + (item t p).below → IsClimbing t p m child → (item t child).parent ≡ None → ⊥
 climb_goes t p m child l high h none =
     let low = h.low in
@@ -132,35 +132,35 @@ climb_goes t p m child l high h none =
     let x = sym held_in.is ∙ none in
     cc
 
--- stepping over siblings, where no node was met yet
+-- element `k` is a sibling of element `n`, or `n` itself
 pub record Stepped (t : Tree) (n k : ℕ) : Type 0 where
   pub start : n < length (items_of t)
   pub there : k < length (items_of t)
   pub beside : (item t k).parent ≡ (item t n).parent
 
--- no node stands from the start up to here, among the siblings after
+-- no sibling from the start up to here is a node
 abbrev pub IsAhead : Tree → Option ℕ → Option ℕ → Type 0
 IsAhead t None next = next ≡ None
 IsAhead t (Some n) None = (n < length (items_of t)) × ((m : ℕ) → n ≤ m → ¬ IsSiblingNode record { tree = t; number = n } m)
 IsAhead t (Some n) (Some k) = Stepped t n k × (n ≤ k) × ((m : ℕ) → n ≤ m → m < k → ¬ IsSiblingNode record { tree = t; number = n } m)
 
--- nor from the start back to here, among those before
+-- no sibling from the start back to here is a node
 abbrev pub IsBack : Tree → Option ℕ → Option ℕ → Type 0
 IsBack t None next = next ≡ None
 IsBack t (Some n) None = (n < length (items_of t)) × ((m : ℕ) → m ≤ n → ¬ IsSiblingNode record { tree = t; number = n } m)
 IsBack t (Some n) (Some k) = Stepped t n k × (k ≤ n) × ((m : ℕ) → k < m → m ≤ n → ¬ IsSiblingNode record { tree = t; number = n } m)
 
--- how far the steps can go
+-- how many elements are left ahead
 abbrev pub left_ahead : Tree → Option ℕ → ℕ
 left_ahead t None = 0
 left_ahead t (Some k) = 1 + (length (items_of t) - k)
 
--- how far there is to go back
+-- how many elements are left to go back
 abbrev pub left_back : Option ℕ → ℕ
 left_back None = 0
 left_back (Some k) = 1 + k
 
--- nodes among siblings, where Q tells who is a sibling
+-- the nodes among siblings, where `Q` holds of the siblings
 module _ (t : Tree) (Q : ℕ → Type 0) (beside : (c m : ℕ) → Q c → Q m → IsSibling record { tree = t; number = c } m)
     (back : (c m : ℕ) → Q c → IsSibling record { tree = t; number = c } m → Q m) where
   pub first_with : (n : ℕ) (start r : Option ℕ) → IsFirst Q n start → FirstNodeFrom t start r → IsFirst (λ m. Q m × IsNodeIn t m) n r
@@ -197,7 +197,7 @@ module _ (t : Tree) (Q : ℕ → Type 0) (beside : (c m : ℕ) → Q c → Q m �
         ],
   )
 
--- children and siblings of an element are siblings of one another
+-- the children, and the siblings, of an element are siblings of one another
 module _ (t : Tree) (n : ℕ) where
   pub child_beside : (c m : ℕ) → IsChild record { tree = t; number = n } c → IsChild record { tree = t; number = n } m
       → IsSibling record { tree = t; number = c } m

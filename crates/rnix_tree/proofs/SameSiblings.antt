@@ -1,4 +1,4 @@
--- Forests that are the same, by the kinds and sizes of their elements, where these start, and the text.
+-- Forests are equal if the kinds, sizes and starts of their elements are, and the text.
 use Rattle.std.proofs.Common.{◌≡◌, ℕ, suc, ◌+◌, ◌-◌, ◌≤◌, ◌<◌, ◌==◌, nat_lt, List, [], ◌∷◌, ◌++◌, length, true, Option, Some, refl, ap, sym}
 use Rattle.std.proofs.{Common.{◌∙◌, subst, arith, inl, inr, append_assoc, length-append}, lemmas.{Bool.{cases_lt, and_parts, Decides.nat_tests}, List.append-nil}}
 use Rattle.std.{proofs.lemmas.Bool.{false≢true}, specs.{Prelude.if◌then◌else◌, Cmp.booleans_Decides}}
@@ -9,24 +9,24 @@ use Rattle.rnix_green.proofs.{ForestLemmas.element_count-join, NestLemmas.{at}, 
 use Rattle.rnix_tree.specs.AlikeSiblings.{same_item}
 use Rattle.rnix_tree.proofs.SiblingForests.{at_inside, at_beyond}
 
--- where the element of an index starts, or the forest ends
+-- where the element with an index starts, or where the forest ends
 abbrev pub stop_at : ℕ → ℕ → Option ℕ → Forest → ℕ → ℕ
 stop_at n s p f i = if nat_lt i (element_count f) then (at n s p f i).start else s + length (text_of f)
 
 pub stops_at : (n s : ℕ) (p : Option ℕ) (f : Forest) (i : ℕ) → i < element_count f → stop_at n s p f i ≡ (at n s p f i).start
 stops_at n s p f i l = ap (λ b. if b then (at n s p f i).start else s + length (text_of f)) (is_below i (element_count f) l)
 
--- the forest ends
+-- beyond its elements the forest ends
 pub stop_end : (n s : ℕ) (p : Option ℕ) (f : Forest) (i : ℕ) → element_count f ≤ i → stop_at n s p f i ≡ s + length (text_of f)
 stop_end n s p f i l = ap (λ b. if b then (at n s p f i).start else s + length (text_of f)) (is_not_below i (element_count f) l)
 
--- the forest starts
+-- the first element starts where the forest does
 stop_start : (n s : ℕ) (p : Option ℕ) (f : Forest) → stop_at n s p f 0 ≡ s
 stop_start n s p empty = stop_end n s p empty 0 (omega arith) ∙ omega arith
 stop_start n s p (leaf k u f) = stops_at n s p (leaf k u f) 0 (omega arith)
 stop_start n s p (node k c f) = stops_at n s p (node k c f) 0 (omega arith)
 
--- after a leaf
+-- the next index after a leaf is the first one after it
 stop_after_leaf : (n s : ℕ) (p : Option ℕ) (k : SyntaxKind) (u : List ℕ) (f : Forest) (i : ℕ)
     → stop_at n s p (leaf k u f) (suc i) ≡ stop_at (n + 1) (s + length u) p f i
 stop_after_leaf n s p k u f i = elim (cases_lt i (element_count f)) [
@@ -36,7 +36,7 @@ stop_after_leaf n s p k u f i = elim (cases_lt i (element_count f)) [
       ∙ sym (stop_end (n + 1) (s + length u) p f i l)
 ]
 
--- after a node
+-- the same for a node and the trees after it
 stop_after_node : (n s : ℕ) (p : Option ℕ) (k : SyntaxKind) (c f : Forest) (i : ℕ)
     → stop_at n s p (node k c f) (suc (element_count c + i)) ≡ stop_at (n + 1 + element_count c) (s + length (text_of c)) p f i
 stop_after_node n s p k c f i = elim (cases_lt i (element_count f)) [
@@ -48,7 +48,7 @@ stop_after_node n s p k c f i = elim (cases_lt i (element_count f)) [
       ∙ sym (stop_end (n + 1 + element_count c) (s + length (text_of c)) p f i l)
 ]
 
--- inside a node, up to its end
+-- the same for the elements inside a node
 stop_inside_node : (n s : ℕ) (p : Option ℕ) (k : SyntaxKind) (c f : Forest) (i : ℕ) → i ≤ element_count c
     → stop_at n s p (node k c f) (suc i) ≡ stop_at (n + 1) s (Some n) c i
 stop_inside_node n s p k c f i h = elim (cases_lt i (element_count c)) [
@@ -61,7 +61,7 @@ stop_inside_node n s p k c f i h = elim (cases_lt i (element_count c)) [
       ∙ stop_start (n + 1 + element_count c) (s + length (text_of c)) p f ∙ sym (stop_end (n + 1) s (Some n) c i l)
 ]
 
--- after the first trees of a forest the others start, or it ends
+-- after the first trees of a forest, the others start
 pub stop_joined : (n s : ℕ) (p : Option ℕ) (f g : Forest) → stop_at n s p (join f g) (element_count f) ≡ s + length (text_of f)
 stop_joined n s p empty g = stop_start n s p g ∙ omega arith
 stop_joined n s p (leaf k u f) g =
@@ -70,20 +70,20 @@ stop_joined n s p (node k c f) g =
     stop_after_node n s p k c (join f g) (element_count f) ∙ stop_joined (n + 1 + element_count c) (s + length (text_of c)) p f g
     ∙ omega (arith, length-append (text_of c) (text_of f))
 
--- two lists begin alike where their first parts have one length
+-- two equal lists have equal first parts if these have the same length
 pub same_front : {X : Type 0} (a b x y : List X) → length a ≡ length b → a ++ x ≡ b ++ y → (a ≡ b) × (x ≡ y)
 same_front [] [] x y l e = (refl, e)
 same_front [] (v ∷ b) x y l e = absurd (omega (arith, l))
 same_front (u ∷ a) [] x y l e = absurd (omega (arith, l))
 same_front (u ∷ a) (v ∷ b) x y l e = (let h = same_front a b x y (omega (arith, l)) cc in (cc, h.1))
 
--- the elements of the forest f and the first ones of the forest g are alike
+-- the elements of forest `f` are like the first ones of forest `g`
 pub record ElementsAlike (n s : ℕ) (p : Option ℕ) (f : Forest) (m v : ℕ) (q : Option ℕ) (g : Forest) : Type 0 where
   pub fits : element_count f ≤ element_count g
   pub same : (i : ℕ) → i < element_count f → same_item (at n s p f i) (at m v q g i) ≡ true
   pub stops : (i : ℕ) → i ≤ element_count f → stop_at n s p f i - s ≡ stop_at m v q g i - v
 
--- elements of the same kind and size
+-- two elements have the same kind and size
 record SameItem (a b : Item) : Type 0 where
   pub kind : a.kind ≡ b.kind
   pub is_node : a.is_node ≡ b.is_node
@@ -102,7 +102,7 @@ same_item_is a b e =
     one_number : (a b : ℕ) → (a == b) ≡ true → a ≡ b
     one_number a b h = grind (arith, nat_tests)
 
--- without the first leaf
+-- the same without the first leaf
 without_leaf : (n s : ℕ) (p : Option ℕ) (k : SyntaxKind) (u : List ℕ) (f : Forest) (m v : ℕ) (q : Option ℕ) (l : SyntaxKind) (w : List ℕ) (g : Forest)
     → length u ≡ length w → ElementsAlike n s p (leaf k u f) m v q (leaf l w g)
     → ElementsAlike (n + 1) (s + length u) p f (m + 1) (v + length w) q g
@@ -112,7 +112,7 @@ without_leaf n s p k u f m v q l w g e h = record {
   stops = λ i less. omega (arith, h.stops (suc i) (omega (arith, less)), stop_after_leaf n s p k u f i, stop_after_leaf m v q l w g i, e);
 }
 
--- inside the first node
+-- the same inside the first node
 inside_both : (n s : ℕ) (p : Option ℕ) (k : SyntaxKind) (c f : Forest) (m v : ℕ) (q : Option ℕ) (l : SyntaxKind) (d g : Forest)
     → element_count c ≡ element_count d → ElementsAlike n s p (node k c f) m v q (node l d g) → ElementsAlike (n + 1) s (Some n) c (m + 1) v (Some m) d
 inside_both n s p k c f m v q l d g e h = record {
@@ -130,7 +130,7 @@ inside_both n s p k c f m v q l d g e h = record {
       );
 }
 
--- without it
+-- the same after the first node
 without_node : (n s : ℕ) (p : Option ℕ) (k : SyntaxKind) (c f : Forest) (m v : ℕ) (q : Option ℕ) (l : SyntaxKind) (d g : Forest)
     → element_count c ≡ element_count d → length (text_of c) ≡ length (text_of d) → ElementsAlike n s p (node k c f) m v q (node l d g)
     → ElementsAlike (n + 1 + element_count c) (s + length (text_of c)) p f (m + 1 + element_count d) (v + length (text_of d)) q g
@@ -153,7 +153,7 @@ without_node n s p k c f m v q l d g e t h = record {
       );
 }
 
--- a forest that begins with another one
+-- forest `g` begins with forest `f`
 pub record BeginsWith (f g : Forest) : Type 0 where
   pub rest : Forest
   pub is : g ≡ join f rest
@@ -168,7 +168,7 @@ all_joined f g e h = h.is ∙ alone f h.rest (omega (arith, e, ap element_count 
     alone (leaf k u f) g e = ap (leaf k u) (alone f g e)
     alone (node k c f) g e = ap (node k c) (alone f g e)
 
--- forests whose elements are alike begin alike, where their texts do
+-- if the elements of a forest are like the first ones of another, and its text begins the other's, the other forest begins with it
 pub begins_alike : (n s : ℕ) (p : Option ℕ) (f : Forest) (m v : ℕ) (q : Option ℕ) (g : Forest) (rest : List ℕ) → ElementsAlike n s p f m v q g
     → text_of g ≡ text_of f ++ rest → BeginsWith f g
 begins_alike n s p empty m v q g rest h e = record { rest = g; is = refl }

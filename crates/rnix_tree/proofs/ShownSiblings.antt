@@ -1,4 +1,4 @@
--- What a walk shows of a forest, which depends on the forest alone.
+-- What the events of a walk over a forest show. It depends on the forest alone.
 use Rattle.std.proofs.Common.{◌≡◌, ℕ, suc, ◌+◌, ◌-◌, ◌<◌, nat_lt, List, [], ◌∷◌, ◌++◌, length, map, take, drop, Bool, true, false, Option, Some, refl, ap, sym}
 use Rattle.std.proofs.{Common.{◌∙◌, subst, arith, inl, inr, append_assoc, length-append}, lemmas.{Bool.cases_lt, List.{map-append, take_at, drop_at}}}
 use Rattle.std.{proofs.lemmas.{Bool.false≢true, List.Elements.{All-nil, All-cons, All-head, All-tail, All-append}}, specs.{Prelude.if◌then◌else◌, List.All}}
@@ -9,13 +9,13 @@ use Rattle.rnix_green.proofs.{NumberTests.{is_below}}
 use Rattle.rnix_tree.specs.WalksAlike.{Shown, shown_event, shown_of, EndsBefore, siblings_before}
 use Rattle.rnix_tree.proofs.{ListLemmas.cons_same, SiblingForests.{IsForest, after_leaf, after_node, inside_node, first_leaf, first_node}, SameSiblings.BeginsWith}
 
--- what a walk shows of a forest
+-- what a walk over a forest shows
 abbrev pub shown_from : Forest → List Shown
 shown_from empty = []
 shown_from (leaf k u f) = shown_event true false k u ∷ shown_event false false k u ∷ shown_from f
 shown_from (node k c f) = shown_event true true k [] ∷ (shown_from c ++ shown_event false true k [] ∷ shown_from f)
 
--- the text of a leaf
+-- the text of a leaf in a tree is the leaf's text
 text_of_leaf : (t : Tree) (n s : ℕ) (p : Option ℕ) (k : SyntaxKind) (u : List ℕ) (f : Forest) → IsForest t n s p (leaf k u f)
     → text_at record { tree = t; number = n } ≡ u
 text_of_leaf t n s p k u f h =
@@ -28,7 +28,7 @@ text_of_leaf t n s p k u f h =
     ∙ ap (take (length u)) (append_assoc u (text_of f) h.after)
     ∙ take_at u (text_of f ++ h.after) (length u) refl
 
--- what an event shows, by its element
+-- what an event shows of a leaf, and of a node
 shown_leaf : (t : Tree) (n s : ℕ) (p : Option ℕ) (k : SyntaxKind) (u : List ℕ) (f : Forest) → IsForest t n s p (leaf k u f)
     → (enters : Bool) → shown_of (event_at t (enters, n)) ≡ shown_event enters false k u
 shown_leaf t n s p k u f h enters =
@@ -42,7 +42,7 @@ shown_node t n s p k c f h enters =
     let own = first_node t n s p k c f h in
     ap (λ (i : Item). shown_event enters i.is_node i.kind (text_at record { tree = t; number = n })) own
 
--- a walk shows what the forest holds
+-- a walk over a forest in a tree shows what the forest contains
 pub shows : (t : Tree) (n s : ℕ) (p : Option ℕ) (f : Forest) → IsForest t n s p f → map shown_of (map (event_at t) (steps_from n f)) ≡ shown_from f
 shows t n s p empty h = refl
 shows t n s p (leaf k u f) h =
@@ -57,7 +57,7 @@ shows t n s p (node k c f) h =
     ∙ ap (λ xs. shown_from c ++ xs) (cons_same (shown_node t n s p k c f h false)
     (shows t (n + 1 + element_count c) (s + length (text_of c)) p f (after_node t n s p k c f h))))
 
--- all of a forest ends before an offset where the forest does
+-- if a forest ends before an offset, all its elements do
 pub all_before : (t : Tree) (n s : ℕ) (p : Option ℕ) (f : Forest) (offset : ℕ) → IsForest t n s p f → s + length (text_of f) < offset
     → All (EndsBefore offset) (map (event_at t) (steps_from n f))
 all_before t n s p empty offset h l = All-nil (EndsBefore offset)
@@ -81,7 +81,7 @@ all_before t n s p (node k c f) offset h l =
     (All-cons (EndsBefore offset) (event_at t (false, n)) (map (event_at t) rest) own
     (all_before t (n + 1 + element_count c) (s + length (text_of c)) p f offset (after_node t n s p k c f h) (omega (arith, l, long))))))
 
--- what is inside an open element is passed with it
+-- the elements inside an open one are passed with it
 passed_inside : (t : Tree) (n : ℕ) (f : Forest) (offset d : ℕ) (rest : List Event) → siblings_before offset (suc d) (map (event_at t) (steps_from n f) ++ rest)
     ≡ map (event_at t) (steps_from n f) ++ siblings_before offset (suc d) rest
 passed_inside t n empty offset d rest = refl
@@ -135,12 +135,12 @@ no_text empty e = refl
 no_text (leaf k u f) e = absurd (omega (arith, e))
 no_text (node k c f) e = absurd (omega (arith, e))
 
--- what holds of all events holds of all after some
+-- what holds of all events holds of those after the first ones
 after_front : {offset : ℕ} (xs ys : List Event) → All (EndsBefore offset) (xs ++ ys) → All (EndsBefore offset) ys
 after_front [] ys all = all
 after_front {offset = offset} (x ∷ xs) ys all = after_front xs ys (All-tail (EndsBefore offset) x (xs ++ ys) all)
 
--- where all of a forest ends before an offset, the forest does
+-- if all elements of a forest end before an offset, the forest does
 pub ends_before : (t : Tree) (n s : ℕ) (p : Option ℕ) (f : Forest) (offset : ℕ) → IsForest t n s p f → 0 < element_count f
     → All (EndsBefore offset) (map (event_at t) (steps_from n f)) → s + length (text_of f) < offset
 ends_before t n s p empty offset h some all = absurd (omega (arith, some))
@@ -187,13 +187,13 @@ IsStop (x ∷ xs) = x.enters ≡ false
 apart : (x y : Shown) (xs ys : List Shown) → x ∷ xs ≡ y ∷ ys → x.enters ≡ true → y.enters ≡ false → ⊥
 apart x y xs ys e f g = (let heads : x ≡ y = cc in absurd (false≢true (sym g ∙ ap (λ (z : Shown). z.enters) (sym heads) ∙ f)))
 
--- a leaf is no node
+-- an event of a leaf does not show the same as one of a node
 mixed : (k l : SyntaxKind) (u : List ℕ) (xs ys : List Shown) → shown_event true false k u ∷ xs ≡ shown_event true true l [] ∷ ys → ⊥
 mixed k l u xs ys e =
     let heads : shown_event true false k u ≡ shown_event true true l [] = cc in
     absurd (false≢true (ap (λ (z : Shown). z.is_node) heads))
 
--- what is shown up to where an element is left determines the forest
+-- what a walk shows until it leaves an element determines the forest
 record IsSameSiblings (f g : Forest) (x y : List Shown) : Type 0 where
   pub siblings : f ≡ g
   pub rest : x ≡ y
@@ -228,7 +228,7 @@ same_siblings (node k c f) (node k' d g) a b x y l m e =
       rest = r.rest;
     }
 
--- so a walk that begins with what is shown of a forest enters its trees
+-- a walk that begins with what is shown of a forest is over a forest that begins with it
 pub begins_with : (f g : Forest) (x y : List Shown) → IsStop y → shown_from f ++ x ≡ shown_from g ++ y → BeginsWith f g
 begins_with empty g x y stop e = record { rest = g; is = refl }
 begins_with (leaf k u f) empty x [] stop e = absurd (cc)

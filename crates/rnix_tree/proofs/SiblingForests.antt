@@ -9,7 +9,7 @@ use Rattle.rnix_green.proofs.{ForestLemmas.{text_of-join, element_count-join}, P
 use Rattle.rnix_green.proofs.{NestLemmas.{at, Parented, of_row, of_node, parented}, NumberTests.{is_same, is_above, is_below, is_not_below}}
 use Rattle.rnix_green.proofs.{InsideLemmas.elements_in_all, SiblingLemmas.next_inside, PartLemmas.{IsPart, IsOne, one_leaf, one_node, part_there, one_there, item_of_part, below_of_part}}
 
--- the trees of a forest are in a tree from the number n and the offset s on
+-- the trees of a forest are in a tree from number `n` and offset `s` on
 pub record IsForest (t : Tree) (n s : ℕ) (p : Option ℕ) (f : Forest) : Type 0 where
   pub items : (i : ℕ) → i < element_count f → item t (n + i) ≡ at n s p f i
   pub there : n + element_count f ≤ length (items_of t)
@@ -18,14 +18,14 @@ pub record IsForest (t : Tree) (n s : ℕ) (p : Option ℕ) (f : Forest) : Type 
   pub text : text_of (forest_of t) ≡ before ++ (text_of f ++ after)
   pub starts : length before ≡ s
 
--- an element inside the first tree of a forest
+-- an index inside the first tree of a forest
 pub at_inside : (n s : ℕ) (p : Option ℕ) (k : SyntaxKind) (c f : Forest) (i : ℕ) → i < element_count c
     → at n s p (node k c f) (suc i) ≡ at (n + 1) s (Some n) c i
 at_inside n s p k c f i l =
     get_or_append_left (items_from (n + 1) s (Some n) c) (items_from (n + 1 + element_count c) (s + length (text_of c)) p f) no_item i
     (omega (arith, l, length-items_from (n + 1) s (Some n) c))
 
--- an element after it
+-- an index after it
 pub at_beyond : (n s : ℕ) (p : Option ℕ) (k : SyntaxKind) (c f : Forest) (i : ℕ) → at n s p (node k c f) (suc (element_count c + i))
     ≡ at (n + 1 + element_count c) (s + length (text_of c)) p f i
 at_beyond n s p k c f i =
@@ -35,7 +35,7 @@ at_beyond n s p k c f i =
     ∙ ap (at (n + 1 + element_count c) (s + length (text_of c)) p f) back
 
 module _ (t : Tree) (n s : ℕ) (p : Option ℕ) where
-  -- the trees after a leaf
+  -- the trees after a leaf are in the tree after it
   pub after_leaf : (k : SyntaxKind) (u : List ℕ) (f : Forest) → IsForest t n s p (leaf k u f) → IsForest t (n + 1) (s + length u) p f
   after_leaf k u f h = record {
     items = λ i l. (let e : n + 1 + i ≡ n + suc i = omega arith in ap (item t) e ∙ h.items (suc i) (omega (arith, l)));
@@ -46,7 +46,7 @@ module _ (t : Tree) (n s : ℕ) (p : Option ℕ) where
     starts = omega (arith, h.starts, length-append h.before u);
   }
 
-  -- the trees after a node
+  -- the trees after a node are in the tree after it
   pub after_node : (k : SyntaxKind) (c f : Forest) → IsForest t n s p (node k c f) → IsForest t (n + 1 + element_count c) (s + length (text_of c)) p f
   after_node k c f h = record {
     items = λ i l.
@@ -61,7 +61,7 @@ module _ (t : Tree) (n s : ℕ) (p : Option ℕ) where
     starts = omega (arith, h.starts, length-append h.before (text_of c));
   }
 
-  -- the trees inside a node
+  -- the trees inside a node are in the tree after the node's own element
   pub inside_node : (k : SyntaxKind) (c f : Forest) → IsForest t n s p (node k c f) → IsForest t (n + 1) s (Some n) c
   inside_node k c f h = record {
     items = λ i l.
@@ -73,7 +73,7 @@ module _ (t : Tree) (n s : ℕ) (p : Option ℕ) where
     starts = h.starts;
   }
 
-  -- the first tree
+  -- the first tree has the item with number `n`
   pub first_leaf : (k : SyntaxKind) (u : List ℕ) (f : Forest) → IsForest t n s p (leaf k u f)
       → item t n ≡ record { kind = k; is_node = false; start = s; end = s + length u; parent = p; below = 0 }
   first_leaf k u f h = (let e : n ≡ n + 0 = omega arith in ap (item t) e ∙ h.items 0 (omega arith))
@@ -82,7 +82,7 @@ module _ (t : Tree) (n s : ℕ) (p : Option ℕ) where
       → item t n ≡ record { kind = k; is_node = true; start = s; end = s + length (text_of c); parent = p; below = element_count c }
   first_node k c f h = (let e : n ≡ n + 0 = omega arith in ap (item t) e ∙ h.items 0 (omega arith))
 
-  -- the first trees of a forest
+  -- the first trees of such a forest are in the tree
   pub first_trees : (f g : Forest) → IsForest t n s p (join f g) → IsForest t n s p f
   first_trees f g h =
       let xs = items_from n s p f in
@@ -99,7 +99,7 @@ module _ (t : Tree) (n s : ℕ) (p : Option ℕ) where
         starts = h.starts;
       }
 
--- the trees after some of a forest
+-- the trees after some of them are in the tree
 pub later_trees : (t : Tree) (n s m v : ℕ) (p : Option ℕ) (f g : Forest) → IsForest t n s p (join f g) → n + element_count f ≡ m → s + length (text_of f) ≡ v
     → IsForest t m v p g
 later_trees t n s m v p empty g h a b =
@@ -119,7 +119,7 @@ record HasPart (n s : ℕ) (p : Option ℕ) (f : Forest) (i : ℕ) (part : Fores
   pub text : text_of f ≡ before ++ (text_of part ++ after)
   pub starts : (at n s p f i).start ≡ s + length before
 
--- more text before it and after it
+-- the same with more text before and after
 more_text : (n s m v : ℕ) (p q : Option ℕ) (f g : Forest) (i j : ℕ) (part : Forest) (b a : List ℕ) → HasPart n s p f i part → at m v q g j ≡ at n s p f i
     → v + length b ≡ s → text_of g ≡ b ++ (text_of f ++ a) → HasPart m v q g j part
 more_text n s m v p q f g i j part b a h same start e = record {
@@ -131,7 +131,7 @@ more_text n s m v p q f g i j part b a h same start e = record {
   starts = omega (arith, ap (λ (x : Item). x.start) same, h.starts, start, length-append b h.before);
 }
 
--- the part of an element has its text there
+-- the text of an element's part is at its range
 text_of_part : (n s : ℕ) (p : Option ℕ) (f : Forest) (i m : ℕ) → n + i ≡ m → i < element_count f → HasPart n s p f i (part_of m n f)
 text_of_part n s p empty i m e l = absurd (omega arith)
 text_of_part n s p (leaf k u f) zero m e l =
@@ -172,7 +172,7 @@ text_of_part n s p (node k c f) (suc i) m e l =
           (ap (at n s p (node k c f)) back ∙ at_beyond n s p k c f j) refl (ap (λ x. text_of c ++ x) (sym (append-nil (text_of f)))))
     ]
 
--- an element with what is inside it, as a forest of one tree
+-- an element, with everything inside it, is a forest of one tree
 pub record IsPartOf (t : Tree) (m : ℕ) (part : Forest) : Type 0 where
   pub start : ℕ
   pub parent : Option ℕ
@@ -213,7 +213,7 @@ part_forest t m l =
       };
     }
 
--- a forest whose first trees are followed by others, the first of which is the element m
+-- a forest splits into its first trees and the others, of which the first is element `m`
 pub record HasRest (n : ℕ) (f : Forest) (m : ℕ) : Type 0 where
   pub first : Forest
   pub rest : Forest
@@ -221,12 +221,12 @@ pub record HasRest (n : ℕ) (f : Forest) (m : ℕ) : Type 0 where
   pub counted : n + element_count first ≡ m
   pub some : 0 < element_count rest
 
--- what is inside a tree of the forest is no child of the node around it
+-- an element inside a tree of the forest is no child of the node around the forest
 not_child : (n q : ℕ) (parent : Option ℕ) → q < n → parent ≡ Some q → Parented (n + 1) (Some n) parent → ⊥
 not_child n q parent low is (of_row e) = (let same : q ≡ n = same_Some q n (sym is ∙ e) in absurd (omega (arith, same, low)))
 not_child n q parent low is (of_node r e high) = (let same : q ≡ r = same_Some q r (sym is ∙ e) in absurd (omega (arith, same, low, high)))
 
--- a child of the node around a forest is one of its trees
+-- each child of the node around a forest is one of its trees
 pub rest_from : (n s q : ℕ) (f : Forest) (i m : ℕ) → q < n → n + i ≡ m → i < element_count f → (at n s (Some q) f i).parent ≡ Some q → HasRest n f m
 rest_from n s q empty i m low e l is = absurd (omega arith)
 rest_from n s q (leaf k u f) zero m low e l is = record { first = empty; rest = leaf k u f; both = refl; counted = omega (arith, e); some = omega arith }

@@ -12,7 +12,7 @@ use Rattle.rnix_tree.proofs.{ListLemmas.cons_same, PreorderLemmas.{enters, leave
 use Rattle.rnix_tree.proofs.SiblingForests.{IsForest, after_leaf, after_node, inside_node, first_leaf, first_node, later_trees, IsPartOf, part_forest}
 use Rattle.rnix_tree.proofs.SiblingForests.{rest_from}
 
--- after an element the one after it is entered, or its parent is left
+-- after an element is left, the one after it is entered, or its parent is left
 goes_behind : (t : Tree) (root m z outer end : ℕ) → root < m → (item t m).parent ≡ Some outer → m + 1 + (item t m).below ≡ z
     → outer + 1 + (item t outer).below ≡ end → z < end → after_leave t root m ≡ Enter z
 goes_behind t root m z outer end low parent next ends less =
@@ -25,7 +25,7 @@ leaves_parent t root m z outer end low parent next ends less =
     ap (behind t root m) parent ∙ behind_inner t root m outer low
     ∙ ap (λ b. if b then Enter (m + 1 + (item t m).below) else Leave outer) (is_not_below _ _ (omega (arith, next, ends, less)))
 
--- after an element is entered
+-- after an element is entered, what is inside it is entered
 goes_inside : (t : Tree) (m : ℕ) → 0 < (item t m).below → after_enter t m ≡ Enter (m + 1)
 goes_inside t m some = ap (λ b. if b then Enter (m + 1) else Leave m) (is_below _ _ some)
 
@@ -33,7 +33,7 @@ leaves_again : (t : Tree) (m : ℕ) → (item t m).below ≤ 0 → after_enter t
 leaves_again t m none = ap (λ b. if b then Enter (m + 1) else Leave m) (is_not_below _ _ none)
 
 module _ (t : Tree) (root : ℕ) (there : root < length (items_of t)) where
-  -- an element is left, and the forest after it is walked
+  -- leaving an element, and then walking the trees after it
   one_remaining : (f : Forest) (m z q stop : ℕ) → root < m → IsInside t root m → (item t m).parent ≡ Some q → m + 1 + (item t m).below ≡ z
       → z + element_count f ≡ stop → q + 1 + (item t q).below ≡ stop
       → (0 < element_count f → IsInside t root z → steps_remaining t root (Enter z) ≡ steps_from z f ++ steps_remaining t root (Leave q))
@@ -50,7 +50,7 @@ module _ (t : Tree) (root : ℕ) (there : root < length (items_of t)) where
             ∙ ap (λ x. x ++ steps_remaining t root (Leave q)) (sym (none_from_count f z (omega (arith, none)))))
       ]
 
-  -- an element is entered, and the forest inside it is walked
+  -- entering an element, and then walking the forest inside it
   one_entered : (c : Forest) (m : ℕ) → IsInside t root m → (item t m).below ≡ element_count c
       → (0 < element_count c → IsInside t root (m + 1) → steps_remaining t root (Enter (m + 1)) ≡ steps_from (m + 1) c ++ steps_remaining t root (Leave m))
       → steps_remaining t root (Enter m) ≡ (true, m) ∷ (steps_from (m + 1) c ++ steps_remaining t root (Leave m))
@@ -66,7 +66,7 @@ module _ (t : Tree) (root : ℕ) (there : root < length (items_of t)) where
             ∙ ap (λ x. x ++ steps_remaining t root (Leave m)) (sym (none_from_count c (m + 1) (omega (arith, none)))))
       ]
 
-  -- so is a whole forest, up to where the node around it is left
+  -- walking a whole forest, until the node around it is left
   pub siblings_walked : (f : Forest) (m s q stop : ℕ) → IsForest t m s (Some q) f → 0 < element_count f → root < m → IsInside t root m
       → m + element_count f ≡ stop → q + 1 + (item t q).below ≡ stop → steps_remaining t root (Enter m) ≡ steps_from m f ++ steps_remaining t root (Leave q)
   siblings_walked empty m s q stop is some low inside counted ends = absurd (omega arith)
@@ -92,7 +92,7 @@ module _ (t : Tree) (root : ℕ) (there : root < length (items_of t)) where
       (omega (arith, counted)) ends))
       ∙ ap (λ x. (true, m) ∷ x) (sym (append_assoc (steps_from (m + 1) c) ((false, m) ∷ steps_from z f) tail))
 
--- the steps of two forests
+-- the steps of two joined forests are those of both
 pub steps_from-join : (n m : ℕ) (f g : Forest) → n + element_count f ≡ m → steps_from n (join f g) ≡ steps_from n f ++ steps_from m g
 steps_from-join n m empty g e = (let same : n ≡ m = omega (arith, e) in ap (λ x. steps_from x g) same)
 steps_from-join n m (leaf k u f) g e = ap (λ x. (true, n) ∷ (false, n) ∷ x) (steps_from-join (n + 1) m f g (omega (arith, e)))
@@ -100,7 +100,7 @@ steps_from-join n m (node k c f) g e =
     ap (λ x. (true, n) ∷ (steps_from (n + 1) c ++ (false, n) ∷ x)) (steps_from-join (n + 1 + element_count c) m f g (omega (arith, e)))
     ∙ ap (λ x. (true, n) ∷ x) (sym (append_assoc (steps_from (n + 1) c) ((false, n) ∷ steps_from (n + 1 + element_count c) f) (steps_from m g)))
 
--- the siblings from an element on, in a walk
+-- the siblings from an element on, as a forest in a walk
 pub record SiblingForest (t : Tree) (root : ℕ) (siblings : SiblingRange) : Type 0 where
   pub forest : Forest
   pub start : ℕ
@@ -114,12 +114,12 @@ pub record SiblingForest (t : Tree) (root : ℕ) (siblings : SiblingRange) : Typ
   pub walked : (f g : Forest) (n : ℕ) → forest ≡ join f g → siblings.first + element_count f ≡ n
       → steps_remaining t root (after_siblings siblings n) ≡ steps_from n g ++ steps_remaining t root (after_siblings siblings siblings.end)
 
--- what a walk does after some siblings: it enters the next one
+-- after some siblings, the walk enters the next one
 pub enters_next : (siblings : SiblingRange) (n : ℕ) → n < siblings.end → after_siblings siblings n ≡ Enter n
 enters_next siblings n l = ap (λ b. if b then Enter n else (if siblings.holder == siblings.first then Done else Leave siblings.holder))
     (is_below n siblings.end l)
 
--- or leaves the node around them
+-- after all of them it leaves the node around them
 leaves_holder : (siblings : SiblingRange) (n : ℕ) → siblings.end ≤ n → siblings.holder < siblings.first → after_siblings siblings n ≡ Leave siblings.holder
 leaves_holder siblings n l low =
     ap (λ b. if b then Enter n else (if siblings.holder == siblings.first then Done else Leave siblings.holder)) (is_not_below n siblings.end l)
@@ -128,13 +128,13 @@ leaves_holder siblings n l low =
     is_below_first : (a b : ℕ) → a < b → (a == b) ≡ false
     is_below_first a b l = grind (arith, nat_tests)
 
--- or ends
+-- or it ends
 ends_walk : (siblings : SiblingRange) (n : ℕ) → siblings.end ≤ n → siblings.holder ≡ siblings.first → after_siblings siblings n ≡ Done
 ends_walk siblings n l same =
     ap (λ b. if b then Enter n else (if siblings.holder == siblings.first then Done else Leave siblings.holder)) (is_not_below n siblings.end l)
     ∙ ap (λ b. if b then Done else Leave siblings.holder) (is_same siblings.holder siblings.first same)
 
--- after all of them it enters no other one
+-- after all of them it enters no element next
 pub enters_none : (siblings : SiblingRange) (n m : ℕ) → siblings.end ≤ n → after_siblings siblings n ≡ Enter m → ⊥
 enters_none siblings n m l e =
     other (siblings.holder == siblings.first)
@@ -225,12 +225,12 @@ tail_of empty = empty
 tail_of (leaf k u f) = f
 tail_of (node k c f) = f
 
--- a forest of one tree has none
+-- a forest of one tree has no others
 one_alone : (part : Forest) → IsOne part → tail_of part ≡ empty
 one_alone _ (one_leaf k u) = refl
 one_alone _ (one_node k c) = refl
 
--- a forest of one tree is the first part of another one, or all of it
+-- if two joined forests are one tree, one of them is empty
 one_joined : (part f g : Forest) → IsOne part → part ≡ join f g → (element_count f ≡ 0) ⊎ (element_count g ≡ 0)
 one_joined part empty g one e = inl refl
 one_joined part (leaf k u f) g one e =
@@ -243,7 +243,7 @@ none_joined empty g e = refl
 none_joined (leaf k u f) g e = absurd (omega (arith, e))
 none_joined (node k c f) g e = absurd (omega (arith, e))
 
--- the root of a walk, which has no siblings there
+-- the root of a walk, which has no siblings in it
 root_siblings : (t : Tree) (root : ℕ) → root < length (items_of t) → SiblingForest t root (siblings_held t root root)
 root_siblings t root there =
     let siblings = siblings_held t root root in
@@ -296,7 +296,7 @@ held_at_root : (root m : ℕ) (p : Option ℕ) → m ≡ root → holder_of root
 held_at_root root m None e = e
 held_at_root root m (Some p) e = ap (λ b. if b then m else p) (is_same m root e) ∙ e
 
--- the siblings from each element on
+-- each element within the root begins a forest of siblings
 pub sibling_forest : (t : Tree) (root x : ℕ) → root < length (items_of t) → IsInside t root x → SiblingForest t root (siblings_at t root x)
 sibling_forest t root x there inside = elim (cases_lt root x) [
   | inl low ↦
@@ -310,7 +310,7 @@ sibling_forest t root x there inside = elim (cases_lt root x) [
       (subst (λ y. SiblingForest t root (siblings_held t y root)) (sym same) (root_siblings t root there))
 ]
 
--- so from those that a walk enters
+-- so do the siblings that a walk enters next
 pub is_sibling_range : (t : Tree) (siblings : SiblingRange) (h : IsSiblingRange t siblings) → SiblingForest t h.root siblings
 is_sibling_range t siblings h = subst (SiblingForest t h.root) (sym h.is) (sibling_forest t h.root siblings.first h.there h.inside)
 

@@ -1,4 +1,4 @@
--- Siblings that are alike by their elements, and the trees in them.
+-- Siblings that are alike by their elements, and the trees of these.
 use Rattle.std.proofs.Common.{◌≡◌, ℕ, zero, suc, ◌+◌, ◌-◌, ◌≤◌, ◌<◌, ◌==◌, take, drop, List, [], ◌++◌, length, Bool, true, false, Option, Some, refl, ap, sym}
 use Rattle.std.proofs.{Common.{◌∙◌, subst, arith, inl, inr, length-append}, lemmas.{Bool.{cases_lt, and_parts, Decides.nat_tests}, List.{append-nil, take_all, take_at, drop_at, take-append-le}}}
 use Rattle.std.proofs.lemmas.List.{take-append-drop, length-take-le}
@@ -13,12 +13,12 @@ use Rattle.rnix_tree.specs.AlikeSiblings.{IsReached, from_first, over_one, text_
 use Rattle.rnix_tree.proofs.SiblingForests.{IsForest, first_leaf, first_node, first_trees, later_trees, at_inside, at_beyond}
 use Rattle.rnix_tree.proofs.{OffsetLemmas.order, SiblingWalks.SiblingForest, SameSiblings.{stop_at, stops_at, stop_end, stop_joined, ElementsAlike, BeginsWith, begins_alike}}
 
--- elements start where an earlier one does, or after it
+-- later elements do not start before earlier ones
 pub starts_after : (t : Tree) (x i : ℕ) → x + i < length (items_of t) → (item t x).start ≤ (item t (x + i)).start
 starts_after t x zero l = (let same : x ≡ x + 0 = omega arith in omega (arith, ap (λ m. (item t m).start) same))
 starts_after t x (suc i) l = (order t x (x + suc i) (omega arith) l).0
 
--- the text of a tree is that of its first element
+-- the text of the root is the text of the tree's forest
 pub whole_text : (t : Tree) → text_at record { tree = t; number = 0 } ≡ text_of (forest_of t)
 whole_text t =
     let text = text_of (forest_of t) in
@@ -69,7 +69,7 @@ one_more t first s n v end offset p all f (node k c g) both counted texts ends i
           omega (arith, before, texts, ap (λ (i : Item). i.end) own, long, length-append (text_of f) (text_of c ++ []), length-append (text_of c) []);
     }
 
--- what is reached over siblings are the first trees of the forest
+-- the siblings that are reached are the first trees of the forest
 pub reached_siblings : (t : Tree) (first s end offset n : ℕ) (p : Option ℕ) (all : Forest) → IsForest t first s p all → first + element_count all ≡ end
     → IsReached t end offset first n → ReachedSiblings first s all offset n
 reached_siblings t first s end offset _ p all is count from_first =
@@ -81,7 +81,7 @@ reached_siblings t first s end offset _ p all is count (over_one n so_far less b
     (omega (arith, ap element_count r.both, element_count-join r.siblings r.rest, r.counted, count))
     (later_trees t first s n v p r.siblings r.rest (subst (IsForest t first s p) r.both is) r.counted refl) less before
 
--- a part of a text
+-- a slice of a text in three parts is the second part
 slice_of : (text before inside after : List ℕ) (s e : ℕ) → text ≡ before ++ (inside ++ after) → length before ≡ s → e ≡ s + length inside
     → take (e - s) (drop s text) ≡ inside
 slice_of text before inside after s e split start end =
@@ -89,7 +89,7 @@ slice_of text before inside after s e split start end =
     ap (λ x. take x (drop s text)) long ∙ ap (λ x. take (length inside) (drop s x)) split
     ∙ ap (take (length inside)) (drop_at before (inside ++ after) s start) ∙ take_at inside after (length inside) refl
 
--- the same forest elsewhere has the same elements, as far after its start
+-- an element of the same forest elsewhere: its start is as far after the forest's
 record SameAt (a b : Item) (s v : ℕ) : Type 0 where
   pub same : same_item a b ≡ true
   pub starts : a.start - s ≡ b.start - v
@@ -135,7 +135,7 @@ same_at n s m v p q (node k c f) (suc i) l = elim (cases_lt i (element_count c))
       (shifted _ _ s v x (same_at (n + 1 + element_count c) (s + x) (m + 1 + element_count c) (v + x) p q f j (omega (arith, l, more)))))
 ]
 
--- a forest stops in its text
+-- each element of a forest starts within the forest's text
 stop_within : (n s : ℕ) (p : Option ℕ) (f : Forest) (i : ℕ) → (s ≤ stop_at n s p f i) × (stop_at n s p f i ≤ s + length (text_of f))
 stop_within n s p f i = elim (cases_lt i (element_count f)) [
   | inl l ↦
@@ -168,7 +168,7 @@ module _ (t : Tree) (root : ℕ) (siblings : SiblingRange) (r : SiblingForest t 
       first_start n s p (leaf k u f) l = refl
       first_start n s p (node k c f) l = refl
 
-  -- they are a range of it
+  -- the siblings are a range of the text
   pub sibling_bounds : (n : ℕ) → siblings.first ≤ n → IsIn t (item t siblings.first).start (text_end t siblings n)
   sibling_bounds n l =
       let i = n - siblings.first in
@@ -188,7 +188,7 @@ module _ (t : Tree) (root : ℕ) (siblings : SiblingRange) (r : SiblingForest t 
         );
       }
 
--- two numbers are one
+-- numbers that pass the test are equal
 one_number : (a b : ℕ) → (a == b) ≡ true → a ≡ b
 one_number a b h = grind (arith, nat_tests)
 
@@ -201,24 +201,24 @@ module _ (t : Tree) (root : ℕ) (siblings : SiblingRange) (r : SiblingForest t 
     is_first : IsFirst
     is_first = first_trees t siblings.first r.start r.parent f g (subst (IsForest t siblings.first r.start r.parent) both r.is)
 
-    -- the trees end there
+    -- the trees that are reached end there
     siblings_stop : text_end t siblings n ≡ r.start + length (text_of f)
     siblings_stop =
         text_stop t root siblings r (element_count f) n counted
         ∙ ap (λ x. stop_at siblings.first r.start r.parent x (element_count f)) both ∙ stop_joined siblings.first r.start r.parent f g
 
-    -- their text
+    -- their text is that slice
     siblings_text : take (text_end t siblings n - (item t siblings.first).start) (drop (item t siblings.first).start (text_of (forest_of t))) ≡ text_of f
     siblings_text =
         ap (λ s. take (text_end t siblings n - s) (drop s (text_of (forest_of t)))) (siblings_start t root siblings r)
         ∙ slice_of (text_of (forest_of t)) is_first.before (text_of f) is_first.after r.start (text_end t siblings n) is_first.text is_first.starts
         siblings_stop
 
-    -- the number of their elements
+    -- they have as many elements as were reached
     count : n - siblings.first ≡ element_count f
     count = omega (arith, counted)
 
-    -- the other forest begins with them, and they end before an offset there
+    -- the other forest begins with these trees, and they end there before an offset
     pub record BeginsWithin : Type 0 where
       pub begins : BeginsWith f o.forest
       pub ends : o.start + length (text_of f) < before
@@ -282,14 +282,14 @@ module _ (t : Tree) (root : ℕ) (siblings : SiblingRange) (r : SiblingForest t 
         ];
       }
 
-      -- forests that are alike begin with the same trees
+      -- if the siblings are alike, the other forest begins with the same trees
       pub alike_begins : BeginsWithin
       alike_begins = record {
         begins = begins_alike siblings.first r.start r.parent f other.first o.start o.parent o.forest _ alike_elements split;
         ends = omega (arith, h.ends, twin_stop, long, within.0);
       }
 
-    -- and forests that begin with the same trees are alike
+    -- if the other forest begins with the same trees, the siblings are alike
     pub begins_so : BeginsWithin → AreSiblingsAlike t siblings n u other before
     begins_so h =
         let x = h.begins in

@@ -1,4 +1,4 @@
--- Passing over what is left inside an element, in a walk.
+-- Skipping the rest of an element in a walk.
 use Rattle.std.proofs.Common.{◌≡◌, ℕ, zero, suc, ◌+◌, ◌≤◌, ◌<◌, List, [], ◌∷◌, ◌++◌, length, map, Bool, true, false, Option, Some, None, refl, ap, sym}
 use Rattle.std.{proofs.{Common.{◌∙◌, subst, arith, ◌⊎◌, inl, inr, append_assoc}, lemmas.{Bool.cases_lt, List.append-nil}}, specs.Prelude.if◌then◌else◌}
 use Rattle.{rnix_kinds.specs.declared.kinds.SyntaxKind.SyntaxKind, rnix_green.specs.{Forest.{Forest, empty, leaf, node, text_of, element_count}, Tree.Tree}}
@@ -32,7 +32,7 @@ by_steps t zero ((false, m) ∷ steps) = refl
 by_steps t (suc d) ((true, m) ∷ steps) = by_steps t (suc (suc d)) steps
 by_steps t (suc d) ((false, m) ∷ steps) = by_steps t d steps
 
--- no more events are left
+-- skipping leaves at most as many events
 pub from_leaving-shorter : {S : Type 0} (d : ℕ) (es : List (Bool × S)) → length (from_leaving d es) ≤ length es
 from_leaving-shorter zero [] = omega arith
 from_leaving-shorter (suc d) [] = omega arith
@@ -41,7 +41,7 @@ from_leaving-shorter zero ((false, s) ∷ es) = omega arith
 from_leaving-shorter (suc d) ((true, s) ∷ es) = omega (arith, from_leaving-shorter (suc (suc d)) es)
 from_leaving-shorter (suc d) ((false, s) ∷ es) = omega (arith, from_leaving-shorter d es)
 
--- nor more events of nodes
+-- skipping leaves at most as many events of nodes
 one_more : (enters : Bool) (spot : Spot) (es : List Event) → length (node_events es) ≤ length (node_events ((enters, spot) ∷ es))
 one_more enters (true, e) es = omega arith
 one_more enters (false, e) es = omega arith
@@ -54,12 +54,12 @@ node_events-shorter zero ((false, s) ∷ es) = omega arith
 node_events-shorter (suc d) ((true, s) ∷ es) = omega (arith, node_events-shorter (suc (suc d)) es, one_more true s es)
 node_events-shorter (suc d) ((false, s) ∷ es) = omega (arith, node_events-shorter d es, one_more false s es)
 
--- from an element of a forest's first depth all of the forest is passed over
+-- from one of the trees of a forest, the rest of the forest is skipped
 record PassesSiblings (n s : ℕ) (p : Option ℕ) (f : Forest) (m : ℕ) : Type 0 where
   pub parent : (at n s p f m).parent ≡ p
   pub passes : (d : ℕ) (rest : List Step) → from_leaving d (from_enter m n f ++ rest) ≡ from_leaving d rest
 
--- from an element with a parent in the forest, all up to where the parent is left
+-- from an element with a parent in the forest, everything is skipped until the parent is left
 pub record PassesInside (n s : ℕ) (p : Option ℕ) (f : Forest) (m : ℕ) : Type 0 where
   pub outer : ℕ
   pub parent : (at n s p f m).parent ≡ Some outer
@@ -100,7 +100,7 @@ inside_node n s p k c f m l u (inr h) =
           ∙ ap (λ x. x ++ rest) (sym (leave_inside h.outer n k c f (omega arith) (omega arith)));
     }
 
--- from the first element of a forest
+-- from the first tree of a forest
 first_of_siblings : (n s : ℕ) (p : Option ℕ) (f : Forest) (m : ℕ) → m ≡ n → 0 < element_count f → (at n s p f n).parent ≡ p → PassesSiblings n s p f m
 first_of_siblings n s p f m e some parent = record {
   parent = ap (λ j. (at n s p f j).parent) e ∙ parent;
@@ -167,12 +167,12 @@ below_root root s p _ m (one_leaf k u) l h = absurd (omega arith)
 below_root root s p _ m (one_node k c) l h =
     inside_node root s p k c empty m l (omega arith) (passed_from (root + 1) s (Some root) c m (omega arith) (omega arith))
 
--- the walk continues inside its root, with what is left
+-- the walk continues within its root, with the events that are not skipped
 pub record Skips (t : Tree) (root : ℕ) (here next : Next) : Type 0 where
   pub within : IsNextWithin t root next
   pub events : from_leaving 0 (events_remaining t root here) ≡ events_remaining t root next
 
--- where the parent is left
+-- the walk continues where the parent is left
 to_parent : (t : Tree) (root m : ℕ) → root < length (items_of t) → IsInside t root m → root < m → Skips t root (Enter m) (after_skip t root (Enter m))
 to_parent t root m there inside low =
     let part = part_at record { tree = t; number = root } in
@@ -194,7 +194,7 @@ to_parent t root m there inside low =
           ∙ ap (events_remaining t root) (sym next);
     }
 
--- at the end, where the walk has only begun
+-- at its root, the walk ends
 pub around_root : (root m : ℕ) (p : Option ℕ) → m ≡ root → around root m p ≡ Done
 around_root root m None e = refl
 around_root root m (Some p) e = ap (λ b. if b then Done else Leave p) (is_same m root e)
@@ -212,7 +212,7 @@ to_end t root m there e =
           ∙ ap (events_remaining t root) (sym next);
     }
 
--- from wherever a walk stands
+-- from wherever a walk is
 pub skips : (t : Tree) (root : ℕ) (here : Next) → root < length (items_of t) → IsNextWithin t root here → Skips t root here (after_skip t root here)
 skips t root (Enter m) there inside =
     elim (cases_lt root m) [

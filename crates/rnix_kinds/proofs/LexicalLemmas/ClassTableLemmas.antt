@@ -1,8 +1,8 @@
--- The table of the classes says of each of the 256 bytes what the classes say.
+-- The table of classes agrees with the definitions of the classes for each of the 256 bytes.
 use Rattle.std.{proofs.{Common.{◌≡◌, ℕ, zero, suc, ◌<◌, Bool, true, false, ◌&&◌, refl, inl, inr, arith}, lemmas.Bool.{and_parts, cases_eq}}, specs.Bool.beq}
 use Rattle.rnix_kinds.specs.{declared.tokenizer.text.Class.Class, Lexical.{Classes.class_test, ClassTable.has_flag}}
 
--- two tests say the same of the first n numbers
+-- two tests agree on the numbers below `n`
 unfoldable pub agree : (ℕ → Bool) → (ℕ → Bool) → ℕ → Bool
 agree p q zero = true
 agree p q (suc n) = beq (p n) (q n) && agree p q n
@@ -20,6 +20,6 @@ agree_at p q (suc n) h b low =
     let parts = and_parts (beq (p n) (q n)) (agree p q n) h in
     elim (cases_eq b n) [ inl here ↦ rw here (same (p n) (q n) parts.0) | inr before ↦ agree_at p q n parts.1 b (omega arith) ]
 
--- a class that agrees with its flag everywhere is the set of bytes with the flag
+-- if a class agrees with its flag on all bytes, the flag decides it
 pub from_table : (flag : ℕ) (class : Class) (b : ℕ) → b < 256 → agree (has_flag flag) (class_test class) 256 ≡ true → has_flag flag b ≡ class_test class b
 from_table flag class b low h = agree_at (has_flag flag) (class_test class) 256 h b low

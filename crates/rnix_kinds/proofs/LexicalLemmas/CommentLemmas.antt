@@ -4,11 +4,11 @@ use Rattle.std.{proofs.lemmas.{Bool.Decides.nat_tests, List.{drop-drop, Sums.pre
 use Rattle.rnix_kinds.specs.{declared.tokenizer.text.Class.TheVariants.Comment, Lexical.{Classes.class_test, Texts.{before_pair, run_end}}}
 use Rattle.rnix_kinds.proofs.LexicalLemmas.WordsLemmas.{before_pair-turn}
 
--- how many bytes come before the end of a comment
+-- the number of bytes before the end of a comment
 abbrev end_in : List ℕ → ℕ
 end_in = before_pair 42 47
 
--- one byte more in front
+-- one more byte in front
 run_step : (x : ℕ) (xs : List ℕ) (b : Bool) → class_test Comment x ≡ b
     → end_in xs ≡ prefix_len (class_test Comment) xs + end_in (drop (prefix_len (class_test Comment) xs) xs)
     → end_in (x ∷ xs) ≡ prefix_len (class_test Comment) (x ∷ xs) + end_in (drop (prefix_len (class_test Comment) (x ∷ xs)) (x ∷ xs))
@@ -24,7 +24,7 @@ comment_run : (xs : List ℕ) → end_in xs ≡ prefix_len (class_test Comment) 
 comment_run [] = omega arith
 comment_run (x ∷ xs) = run_step x xs (class_test Comment x) refl (comment_run xs)
 
--- what comes before a place and a run of them from there on
+-- the bytes before a position, and a run of such bytes from there on
 pub comment_run_end : (i end : ℕ) (xs : List ℕ) → before_pair 42 47 xs ≡ i + before_pair 42 47 (drop i xs)
     → end ≡ run_end (class_test Comment) i xs → before_pair 42 47 xs ≡ end + before_pair 42 47 (drop end xs)
 comment_run_end i end xs so_far e =
@@ -32,7 +32,7 @@ comment_run_end i end xs so_far e =
     let same = ap end_in (drop-drop (prefix_len (class_test Comment) (drop i xs)) i xs) in
     rw e (omega (arith, so_far, run, same))
 
--- and a `*` follows it, or the text ends
+-- a `*` follows that run, or the text ends
 pub star_follows : (i end : ℕ) (xs : List ℕ) → end ≡ run_end (class_test Comment) i xs → end < length xs → get_or xs end 0 ≡ 42
 star_follows i end xs e h =
     let n = prefix_len (class_test Comment) (drop i xs) in
@@ -40,14 +40,14 @@ star_follows i end xs e h =
     let at : get_or (drop i xs) n 0 ≡ get_or xs (i + n) 0 = get_or-drop i xs n 0 in
     rw e (grind (arith, nat_tests, stop, at))
 
--- a `*` and another byte than `/` are passed
+-- a `*` before another byte than `/` does not end the comment
 pub star_passed : (i : ℕ) (xs : List ℕ) (next : ℕ) → i < length xs → get_or xs (i + 1) 0 ≡ next → ((next ≡ 47) → ⊥)
     → before_pair 42 47 xs ≡ i + before_pair 42 47 (drop i xs) → before_pair 42 47 xs ≡ (i + 1) + before_pair 42 47 (drop (i + 1) xs)
 star_passed i xs next h e other so_far =
     let turn = before_pair-turn 42 47 xs i h in
     grind (arith, nat_tests, turn, e, other, so_far)
 
--- the pair ends the comment
+-- `*/` ends the comment
 pub pair_ends : (i : ℕ) (xs : List ℕ) → i < length xs → get_or xs i 0 ≡ 42 → get_or xs (i + 1) 0 ≡ 47 → before_pair 42 47 (drop i xs) ≡ 0
 pair_ends i xs h star slash =
     let turn = before_pair-turn 42 47 xs i h in

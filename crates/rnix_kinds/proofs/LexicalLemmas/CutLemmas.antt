@@ -1,4 +1,4 @@
--- Every rule cuts off a text that is not empty, at a character's end.
+-- Every rule cuts off a nonempty text that ends at a character boundary.
 use Rattle.std.proofs.Common.{◌≡◌, ℕ, ◌+◌, ◌<◌, Bool, true, false, not, cond, ◌&&◌, ◌||◌, ◌==◌, nat_lt, List, [], ◌∷◌, length, get_or, take, drop, IsUtf8}
 use Rattle.std.proofs.{Common.{Option, Some, None, refl, sym, subst, inl, inr, arith, zero-add, eqb-true, false-eqb}, lemmas.Bool.and_parts}
 use Rattle.std.proofs.lemmas.{Bool.Decides.nat_tests, List.Sums.prefix_len_passes, Str.{IsCharBoundary-start, IsCharBoundary-end}}
@@ -46,7 +46,7 @@ module _ (top : Option Mode) (text : List ℕ) (utf8 : IsUtf8 text) (some : 0 < 
   space_fits = if_fits top text (nat_lt 0 (space_len text)) _ _ (λ e. good_plain top text _ _ refl (grind (arith, nat_tests))
       (IsCharBoundary-space_len text utf8)) (λ e. tt)
 
-  -- what begins with a byte of the class and is its longest run from the place i on
+  -- a token that begins with a byte of the class, and is the longest run of it from position `i` on
   good_run : (kind : SyntaxKind) (class : Class) → is_free kind ≡ true → class_test class (get_or text 0 0) ≡ true
       → IsCutOf top text (plain kind (run_end (class_test class) 0 text))
   good_run kind class free e =
@@ -69,7 +69,7 @@ module _ (top : Option Mode) (text : List ℕ) (utf8 : IsUtf8 text) (some : 0 < 
       (λ e. good_named top text _ _ (omega (arith, run_some (class_test Name) text some (letter_name (get_or text 0 0) e)))
       (run_boundary Name 0 text utf8 (IsCharBoundary-start text utf8)) (word_named (take (run_end (class_test Name) 0 text) text))) (λ e. tt)
 
-  -- numbers, from a place after the first byte on
+  -- numbers, from a position after the first byte on
   exponent_digits_good : (i : ℕ) → 0 < i → IsCharBoundary text i → IsCutOf top text (exponent_digits i text)
   exponent_digits_good i more start = good_plain top text _ _ (free_if (run_end is_ascii_digit i text == i) TOKEN_ERROR TOKEN_FLOAT refl refl) (omega arith)
       (run_boundary Digit i text utf8 start)
@@ -209,7 +209,7 @@ module _ (top : Option Mode) (text : List ℕ) (utf8 : IsUtf8 text) (some : 0 < 
       (λ s. if_good top text (begins (codes "${") text) _ _ (good_change _ (codes "${") (Open (Interpolation 0)) refl refl refl (omega arith) refl)
       (λ t. closer_good m before s t)))
 
--- each of the rules cuts well where it fits
+-- the cut of each rule that applies is good
 abbrev AllFit : Option Mode → List ℕ → List (Option Cut) → Type 0
 AllFit top text [] = Unit {0}
 AllFit top text (rule ∷ rules) = FitsWell top text rule × AllFit top text rules
@@ -258,7 +258,7 @@ module _ (top : Option Mode) (text : List ℕ) (utf8 : IsUtf8 text) (some : 0 < 
       first_of_good top text (normal_rules top text) _ fit (good_plain top text TOKEN_ERROR _ refl (char_len_some text)
       (IsCharBoundary-char_len text utf8 some))
 
--- every token is cut well
+-- the cut of every token is good
 pub cut_good : (top : Option Mode) (text : List ℕ) → IsUtf8 text → 0 < length text → IsPathGoingOn top text → IsCutOf top text (cut_at top text)
 unfolding cut_at
 cut_good None text utf8 some going = normal_good None text utf8 some

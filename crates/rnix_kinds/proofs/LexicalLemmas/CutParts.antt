@@ -1,4 +1,4 @@
--- Where the parts of a cut end, and what its kind says of its text.
+-- Where the parts of a cut end, and what its kind requires of its text.
 use Rattle.std.proofs.Common.{◌≡◌, ℕ, zero, suc, ◌+◌, ◌-◌, ◌<◌, Bool, true, false, cond, ◌&&◌, ◌||◌, ◌==◌, nat_lt, List, [], ◌∷◌, length, get_or, take, drop}
 use Rattle.std.proofs.Common.{IsUtf8, Option, Some, None, refl, sym, ap, ◌∙◌, subst, inl, inr, arith, add-zero, get_or-drop, length-drop, eqb-true, false-eqb}
 use Rattle.std.proofs.lemmas.{Slice.Eq.bytes_eq-Decides, Bool.{cases_lt, and_parts, Decides.nat_tests}, List.Sums.prefix_len_passes, Str.IsUtf8-drop}
@@ -14,7 +14,7 @@ use Rattle.rnix_kinds.specs.Lexical.{Plain.{plain, block_comment, word, kind_of_
 use Rattle.rnix_kinds.{specs.{Lexical.Operators.{opening_brace, closing_brace}, SyntaxKind.is_token}, proofs.LexicalLemmas.StringsLemmas.content_len-stops}
 use Rattle.rnix_kinds.proofs.LexicalLemmas.WordsLemmas.{within_from_byte, IsCharBoundary-run, IsCharBoundary-char_len, before_pair-le, before_pair-found}
 
--- if the rule fits, its cut is good
+-- if the rule applies, its cut is good
 abbrev pub FitsWell : Option Mode → List ℕ → Option Cut → Type 0
 FitsWell top text None = Unit {0}
 FitsWell top text (Some cut) = IsCutOf top text cut
@@ -29,7 +29,7 @@ pub if_good : (top : Option Mode) (text : List ℕ) (b : Bool) (x y : Cut) → (
 if_good top text true x y holds fails = holds refl
 if_good top text false x y holds fails = fails refl
 
--- a kind of tokens that says nothing of its text
+-- a kind of tokens that requires nothing of the text
 abbrev pub is_free : SyntaxKind → Bool
 is_free TOKEN_CUR_POS = false
 is_free TOKEN_OR = false
@@ -52,7 +52,7 @@ free_path start = elim start as (λ s. is_free (kind_of_path s) ≡ true) [ Star
 pub path_opens : (start : PathStart) → opens_path (kind_of_path start) ≡ true
 path_opens start = elim start as (λ s. opens_path (kind_of_path s) ≡ true) [ StartSlash ↦ refl | StartName ↦ refl | StartTilde ↦ refl ]
 
--- `${` stands where the rest begins
+-- `${` at a position begins the rest of the text from there on
 pub interpolation_next : (n : ℕ) (text : List ℕ) → occurs_at (codes "${") n text ≡ true → begins (codes "${") (drop n text) ≡ true
 interpolation_next n text e =
     let here : get_or (drop n text) 0 0 ≡ get_or text n 0 = get_or-drop n text 0 0 ∙ ap (λ k. get_or text k 0) (add-zero n) in
@@ -83,7 +83,7 @@ byte_end text i b utf8 ascii e =
     let high : b < 128 = grind (arith, nat_tests) in
     IsCharBoundary-after_ascii text i utf8 (within_from_byte text i (omega arith)) (omega arith)
 
--- ASCII bytes end where a character does
+-- ASCII bytes end at a character boundary
 pub occurrence_end : (bytes : List ℕ) (i : ℕ) (text : List ℕ) → IsUtf8 text → 0 < length bytes → list_all is_plain_byte bytes ≡ true
     → occurs_at bytes i text ≡ true → IsCharBoundary text (i + length bytes)
 occurrence_end [] i text utf8 some ascii e = absurd (omega arith)
@@ -93,7 +93,7 @@ occurrence_end (b ∷ c ∷ bytes) i text utf8 some ascii e =
     let same : suc i + length (c ∷ bytes) ≡ i + length (b ∷ c ∷ bytes) = omega arith in
     subst (IsCharBoundary text) same more
 
--- a run ends where a character does
+-- a run ends at a character boundary
 pub run_boundary : (class : Class) (i : ℕ) (text : List ℕ) → IsUtf8 text → IsCharBoundary text i → IsCharBoundary text (run_end (class_test class) i text)
 run_boundary class i text utf8 start =
     IsCharBoundary-from_rest text i _ start.0 (IsCharBoundary-run class (drop i text) (IsUtf8-drop text i utf8 start))
@@ -111,7 +111,7 @@ letter_name b e = grind (arith, nat_tests)
 differs : (word : List ℕ) → word ≡ codes "or" → bytes_eq word (codes "or") ≡ false → ⊥
 differs word same e = let f = rw same at e in cc
 
--- the word `or` has its own kind
+-- only the word `or` is a TOKEN_OR
 pub word_named : (word : List ℕ) → MayBe (kind_of_word word) word
 word_named word =
     named_if (bytes_eq word (codes "assert")) _ _ word (λ e. refl) (λ e.
@@ -198,7 +198,7 @@ pub or_right : (a b : Bool) → a ≡ false → (a || b) ≡ true → b ≡ true
 or_right true b e h = absurd (cc)
 or_right false b e h = h
 
--- `~` and the next character
+-- `~` and the next character are a good cut
 pub tilde_good : (top : Option Mode) (text : List ℕ) → IsUtf8 text → get_or text 0 0 == 126 ≡ true
     → IsCutOf top text (plain TOKEN_ERROR (cond (length text == 1) 1 (1 + char_len (drop 1 text))))
 tilde_good top text utf8 e =
@@ -218,7 +218,7 @@ angle_end b e p = grind (arith, nat_tests)
 angle_open : (b : ℕ) → b == 60 ≡ true → class_test Angle b ≡ true
 angle_open b e = grind (arith, nat_tests)
 
--- the byte after the path characters that follow `<` is `<` or `>`
+-- the byte after the path characters after `<` is `<` or `>`
 search_byte : (text : List ℕ) → 0 < length text → get_or text 0 0 == 60 ≡ true → get_or text (prefix_len (class_test Angle) text) 0 == 62 ≡ true
     → (0 < get_or text (run_end is_path 1 text) 0) × (get_or text (run_end is_path 1 text) 0 < 128)
 search_byte text some first last =

@@ -1,4 +1,4 @@
--- Which rules the first bytes of a text leave.
+-- Which rules may apply, by the first bytes of a text.
 use Rattle.std.proofs.Common.{◌≡◌, ℕ, zero, suc, ◌<◌, Bool, true, false, ◌&&◌, ◌||◌, ◌==◌, nat_lt, cond, List, [], ◌∷◌, length, get_or, take, drop, Option}
 use Rattle.std.proofs.{Common.{Some, None, refl, sym, ◌∙◌, inl, inr, arith}, lemmas.{Bool.{cases_lt, and_parts, Decides.nat_tests}, List.get_or_past}}
 use Rattle.std.{proofs.lemmas.List.Sums.{prefix_len_passes, prefix_len_stops}, specs.{List.prefix_len, Char.{is_whitespace, is_ascii_alphabetic}}}
@@ -17,7 +17,7 @@ no_middle : (a b c : Bool) (cut : Cut) → b ≡ false → cond (a && b && c) (S
 no_middle true b c cut e = rw e refl
 no_middle false b c cut e = refl
 
--- a run of p ends before the byte only where that of q does, if the byte is not in q and p does not continue where q ends
+-- a run of `p` ends before the byte only if a run of `q` does, if the byte is not in `q`, and `p` does not continue after a run of `q`
 stops_elsewhere : (p q : ℕ → Bool) (text : List ℕ) (stop : ℕ) → q stop ≡ false → p (get_or text (prefix_len q text) 0) ≡ false
     → ¬ (get_or text (prefix_len q text) 0 ≡ stop)
     → ¬ (get_or text (prefix_len p text) 0 ≡ stop)
@@ -30,7 +30,7 @@ stops_elsewhere p q text stop out ended other is =
       ]
     ]
 
--- no byte of a run comes after it
+-- the byte after a run is not in it
 run_ends : (p : ℕ → Bool) (text : List ℕ) → p 0 ≡ false → p (get_or text (prefix_len p text) 0) ≡ false
 run_ends p text out =
     elim (cases_lt (prefix_len p text) (length text)) [
@@ -50,7 +50,7 @@ scheme_ends b e out = (grind (arith, nat_tests), λ f. grind (arith, nat_tests))
 differs : (a b : ℕ) → ¬ (a ≡ b) → (a == b) ≡ false
 differs a b e = grind (arith, nat_tests)
 
--- a name after which nothing continues begins no path
+-- a name that nothing continues begins no path
 pub relative-None-named : (text : List ℕ) → goes_past_name (get_or text (prefix_len (class_test Name) text) 0) ≡ false → relative text ≡ None
 relative-None-named text out =
     let ended = step_ends _ (name_ends text) out in
@@ -58,7 +58,7 @@ relative-None-named text out =
     let n = prefix_len (class_test Step) text in
     no_cut (nat_lt 0 n) (goes_on_as_path n text) _ (rw (differs (get_or text n 0) 47 stop) refl)
 
--- and no URI
+-- a name that nothing continues begins no URI
 pub uri-None-named : (text : List ℕ) → goes_past_name (get_or text (prefix_len (class_test Name) text) 0) ≡ false → uri text ≡ None
 uri-None-named text out =
     let ended = scheme_ends _ (name_ends text) out in
@@ -68,7 +68,7 @@ uri-None-named text out =
 no_scheme : (b : ℕ) → class_test Step b ≡ false → class_test Scheme b ≡ false
 no_scheme b out = grind (arith, nat_tests)
 
--- nor does what has no `:` where its path characters but `/` end
+-- a text without `:` after its path characters other than `/` begins no URI
 pub uri-None-step : (text : List ℕ) → ¬ (get_or text (prefix_len (class_test Step) text) 0 ≡ 58) → uri text ≡ None
 uri-None-step text other =
     let ended = no_scheme (get_or text (prefix_len (class_test Step) text) 0) (run_ends (class_test Step) text refl) in
@@ -84,7 +84,7 @@ one_step text (suc (suc n)) e out =
     let path = (and_parts (is_path (get_or text 1 0)) _ passes).0 in
     cc
 
--- a path does not begin before a byte that is no path character
+-- a text whose second byte is no path character begins no relative path
 pub relative-None-short : (text : List ℕ) → is_path (get_or text 1 0) ≡ false → relative text ≡ None
 relative-None-short text out = rw (one_step text _ refl out) refl
 
@@ -93,7 +93,7 @@ ellipsis-None-short text out =
     let no_dot : (get_or text 1 0 == 46) ≡ false = grind (arith, nat_tests) in
     no_cut (get_or text 0 0 == 46) (get_or text 1 0 == 46 && get_or text 2 0 == 46) _ (rw no_dot refl)
 
--- two or three rules that do not fit, and one that does
+-- of three rules, the first two do not apply and the third does
 pub third_fits : (a b c : Option Cut) (rest : List (Option Cut)) (last cut : Cut) → a ≡ None → b ≡ None → c ≡ Some cut
     → cut ≡ first_that_fits (a ∷ b ∷ c ∷ rest) last
 third_fits a b c rest last cut e f g = rw (e, f, g) refl
@@ -102,7 +102,7 @@ pub none_of_three : (a b c : Option Cut) (rest : List (Option Cut)) (last : Cut)
     → first_that_fits rest last ≡ first_that_fits (a ∷ b ∷ c ∷ rest) last
 none_of_three a b c rest last e f g = rw (e, f, g) refl
 
--- rules that do not fit are passed over, down to one that fits
+-- rules that do not apply may be left out
 data Leaves : List (Option Cut) → List (Option Cut) → Type 0 where
   none : Leaves [] []
   passed : (rule : Option Cut) (rules kept : List (Option Cut)) → rule ≡ None → Leaves rules kept → Leaves (rule ∷ rules) kept
@@ -120,7 +120,7 @@ leaves_first _ _ last (passed rule rules kept e more) = rw e (leaves_first rules
 leaves_first _ _ last (stays rule rules kept more) = stays_first rule rules kept last (leaves_first rules kept last more)
 leaves_first _ _ last (ends rule cut rules e) = rw (← e) refl
 
--- a rule does not fit a text whose first byte begins nothing of its kind
+-- a rule does not apply to a text that begins with another byte than its tokens do
 module _ (text : List ℕ) (b : ℕ) (is : get_or text 0 0 ≡ b) where
   space_none : b < 128 → is_whitespace b ≡ false → space text ≡ None
   space_none low out = rw (space_len-stop text (rw is low) (rw is out)) refl
@@ -192,7 +192,7 @@ word_visible b e = grind (arith, nat_tests)
 visible : (b : ℕ) → 32 < b → b < 128 → is_whitespace b ≡ false
 visible b low high = grind (arith, nat_tests)
 
--- what is cut by the first byte
+-- the cut of a text, by its first byte
 module _ (top : Option Mode) (text : List ℕ) (b : ℕ) (is : get_or text 0 0 ≡ b) where
   pub normal-blank : b < 128 → is_whitespace b ≡ true → plain TOKEN_WHITESPACE (space_len text) ≡ normal_cut top text
   unfolding normal_cut
@@ -248,7 +248,7 @@ module _ (top : Option Mode) (text : List ℕ) (b : ℕ) (is : get_or text 0 0 �
       (passed _ _ _ (brace_none text b is top (grind (arith, nat_tests)) (grind (arith, nat_tests)))
       (stays (operator text) [] [] none)))))))))))))
 
-  -- after white space, what begins with none of the bytes of the other rules
+  -- after white space, only operators are left for bytes with which no other rule begins
   only_operator : begins_word b ≡ false → begins_step b ≡ false → (b == 34) ≡ false → (b == 36) ≡ false → (b == 39) ≡ false
       → (b == 35) ≡ false → (b == 47) ≡ false → (b == 60) ≡ false → (b == 126) ≡ false → (b == 123) ≡ false → (b == 125) ≡ false
       → Leaves (comment text ∷ ellipsis text ∷ slash text ∷ home text ∷ relative text ∷ search_path text ∷ uri text ∷ word text ∷ number text ∷ opener text
@@ -283,7 +283,7 @@ module _ (top : Option Mode) (text : List ℕ) (b : ℕ) (is : get_or text 0 0 �
       (grind (arith, nat_tests)) (grind (arith, nat_tests))
       (grind (arith, nat_tests)) (grind (arith, nat_tests)) (grind (arith, nat_tests)) (grind (arith, nat_tests))))
 
--- and by a byte that one rule alone begins with
+-- the cut of a text, if only one rule begins with its first byte
 module _ (top : Option Mode) (text : List ℕ) where
   no_space : (b : ℕ) → get_or text 0 0 ≡ b → 32 < b → b < 128 → space text ≡ None
   no_space b is low high = space_none text b is high (visible b low high)

@@ -28,7 +28,7 @@ AreTokens-tokens_under modes text utf8 =
     along_tokens AreTokens none (λ modes text cut tokens utf8 some e good more. next modes text cut tokens some e more) (length text) modes text
     (omega arith) utf8
 
--- and no others
+-- and no text has two lists of tokens
 pub AreTokens-unique : (modes : List Mode) (text : List ℕ) (xs ys : List Lexeme) → AreTokens modes text xs → AreTokens modes text ys → xs ≡ ys
 AreTokens-unique _ _ _ _ (none modes) (none _) = refl
 AreTokens-unique _ _ _ _ (none modes) (next _ _ cut tokens some e more) = absurd (omega arith)

@@ -1,4 +1,4 @@
--- The words on lengths are what they are called.
+-- The functions that return lengths return the longest ones.
 use Rattle.std.proofs.Common.{◌≡◌, ℕ, zero, suc, ◌+◌, ◌<◌, ◌≤◌, Bool, true, false, List, [], ◌∷◌, length, take, drop, refl, sym, subst, inl, inr, arith}
 use Rattle.std.{proofs.{Common.length-drop, lemmas.{Bool.{cases_lt, and_parts}, List.Sums.prefix_len-le-length}}, specs.List.{list_all, prefix_len}}
 use Rattle.rnix_kinds.specs.Lexical.{Strings.{piece_len, content_len}, Texts.before_pair, Longest.{IsLongest, IsRun, IsRow, empty, piece, IsFirstPair}}
@@ -24,7 +24,7 @@ run_longest p (x ∷ xs) (suc m) run =
     let more = run_longest p xs m (omega (arith, run.0), parts.1) in
     rw (parts.0) (omega arith)
 
--- `prefix_len` is the longest run
+-- `prefix_len` returns the length of the longest run
 pub prefix_len-IsLongest : (p : ℕ → Bool) (xs : List ℕ) → IsLongest (IsRun p xs) (prefix_len p xs)
 prefix_len-IsLongest p xs = record { member = (prefix_len-le-length p xs, run_passes p xs); longest = run_longest p xs }
 
@@ -52,11 +52,11 @@ row_member : (m : Bool) (fuel : ℕ) (text : List ℕ) → length text ≤ fuel 
 row_member m zero text h before = absurd (omega arith)
 row_member m (suc fuel) text h before = row_case m fuel text (piece_len m text) refl h before (row_member m fuel)
 
--- the content is the longest sequence of pieces, where the text does not end first
+-- the content is the longest sequence of pieces, if the text does not end first
 pub content_len-IsLongest : (m : Bool) (text : List ℕ) → content_len m text < length text → IsLongest (λ n. IsRow m n text) (content_len m text)
 content_len-IsLongest m text before = record { member = row_member m (length text) text (omega arith) before; longest = λ n fits. row_longest m n text fits }
 
--- `before_pair` is the first pair's place
+-- `before_pair` returns the position of the first pair
 pub before_pair-IsFirstPair : (a b : ℕ) (text : List ℕ) → 0 < b → IsFirstPair a b text (before_pair a b text)
 before_pair-IsFirstPair a b text some = record {
   within = before_pair-le a b text;

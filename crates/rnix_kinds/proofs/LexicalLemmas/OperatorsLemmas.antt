@@ -4,7 +4,7 @@ use Rattle.std.{proofs.lemmas.{Bool.{and_parts, Decides.nat_tests}, Option.same_
 use Rattle.rnix_kinds.specs.{declared.{kinds.SyntaxKind.SyntaxKind, tokenizer.rule.Cut.Cut}, Lexical.{Texts.begins, Plain.plain, Operators.operators}}
 use Rattle.rnix_kinds.specs.Lexical.{Operators.{first_row, operator}, Longest.{IsLongest, FitsRow}}
 
--- no row is longer than one before it
+-- no row is longer than an earlier one
 abbrev is_no_longer : ℕ → List ℕ × SyntaxKind → Bool
 is_no_longer n row = not (nat_lt n (length row.0))
 

@@ -1,4 +1,4 @@
--- Where a scheme ends: its bytes are the path characters but `/` and `_`.
+-- Where a scheme ends: its bytes are the path characters except `/` and `_`.
 use Rattle.std.proofs.{Common.{◌≡◌, ◌==◌, ℕ, suc, ◌+◌, Bool, true, false, not, List, [], ◌∷◌, refl, arith, get_or}, lemmas.Bool.Decides.nat_tests}
 use Rattle.{std.specs.List.prefix_len, rnix_kinds.specs.{declared.tokenizer.text.Class.TheVariants.{Step, Scheme}, Lexical.Classes.class_test}}
 use Rattle.rnix_kinds.specs.Lexical.Longest.{IsScheme}
@@ -18,7 +18,7 @@ no_scheme b e f = grind (arith, nat_tests)
 colon_step : (b : ℕ) → b ≡ 58 → class_test Step b ≡ false
 colon_step b e = grind (arith, nat_tests)
 
--- a byte of the scheme in front changes nothing
+-- one more byte of the scheme in front changes nothing
 module _ (b : ℕ) (text : List ℕ) where
   goes_on : class_test Scheme b ≡ true → (IsSchemeEnd text → IsScheme text) × (IsScheme text → IsSchemeEnd text)
       → (IsSchemeEnd (b ∷ text) → IsScheme (b ∷ text)) × (IsScheme (b ∷ text) → IsSchemeEnd (b ∷ text))
@@ -44,7 +44,7 @@ module _ (b : ℕ) (text : List ℕ) where
     λ scheme. rw e (colon_after (class_test Step b) refl e scheme),
   )
 
--- the two ways to say where a scheme ends
+-- the two definitions of where a scheme ends agree
 pub scheme_ends : (text : List ℕ) → (IsSchemeEnd text → IsScheme text) × (IsScheme text → IsSchemeEnd text)
 scheme_ends [] = (λ e. absurd (omega arith), λ e. absurd (omega (arith, e.1)))
 scheme_ends (b ∷ text) =

@@ -4,14 +4,14 @@ use Rattle.std.{proofs.lemmas.{Bool.Decides.nat_tests, List.drop-drop}, specs.Li
 use Rattle.rnix_kinds.specs.{declared.tokenizer.text.Class.TheVariants.Content, Lexical.{Classes.class_test, Texts.run_end, Strings.{piece_len, content_from}}}
 use Rattle.rnix_kinds.specs.Lexical.Strings.{content_len}
 
--- a piece is passed as a whole
+-- the rest of an open piece is part of the content
 content_from-inside : (m : Bool) (inside : ℕ) (xs : List ℕ) → inside ≤ length xs → content_from m inside xs ≡ inside + content_from m 0 (drop inside xs)
 unfolding content_from
 content_from-inside m zero xs h = omega arith
 content_from-inside m (suc k) [] h = absurd (omega arith)
 content_from-inside m (suc k) (x ∷ xs) h = omega (arith, content_from-inside m k xs (omega arith))
 
--- the text ends in a piece
+-- if the text ends in a piece, so does the content
 content_from-past : (m : Bool) (inside : ℕ) (xs : List ℕ) → length xs ≤ inside → content_from m inside xs ≡ length xs
 unfolding content_from
 content_from-past m zero [] h = refl
@@ -43,7 +43,7 @@ pub content_len-nil : (m : Bool) → content_len m [] ≡ 0
 unfolding content_from
 content_len-nil m = refl
 
--- a byte that means nothing of its own is a piece
+-- a byte without a special meaning is a piece
 plain_piece : (m : Bool) (x : ℕ) (xs : List ℕ) → class_test Content x ≡ true → piece_len m (x ∷ xs) ≡ 1
 plain_piece true x xs e = grind (arith, nat_tests)
 plain_piece false x xs e = grind (arith, nat_tests)
@@ -57,13 +57,13 @@ content_run_step m true x xs e h =
     rw (e, more) (omega (arith, piece, h))
 content_run_step m false x xs e h = rw e (omega arith)
 
--- and so is a run of them a sequence of pieces
+-- a run of such bytes is a sequence of pieces
 pub content_len-run : (m : Bool) (xs : List ℕ) → content_len m xs ≡ prefix_len (class_test Content) xs + content_len m
     (drop (prefix_len (class_test Content) xs) xs)
 content_len-run m [] = omega arith
 content_len-run m (x ∷ xs) = content_run_step m (class_test Content x) x xs refl (content_len-run m xs)
 
--- what comes before a place and a run from there on
+-- the pieces before a position, and a run of such bytes from there on
 pub content_len-run_end : (m : Bool) (i end : ℕ) (xs : List ℕ) → content_len m xs ≡ i + content_len m (drop i xs) → end ≡ run_end (class_test Content) i xs
     → content_len m xs ≡ end + content_len m (drop end xs)
 content_len-run_end m i end xs so_far e =
@@ -94,7 +94,7 @@ content_from-le m zero (x ∷ xs) = content_le_step m x xs (piece_len m (x ∷ x
 pub content_len-le : (m : Bool) (xs : List ℕ) → content_len m xs ≤ length xs
 content_len-le m xs = content_from-le m 0 xs
 
--- where the content ends before the text does, no piece follows
+-- if the content ends before the text, no piece follows it
 content_from-stops : (m : Bool) (inside : ℕ) (xs : List ℕ) → content_from m inside xs < length xs → piece_len m (drop (content_from m inside xs) xs) ≡ 0
 unfolding content_from
 content_from-stops m inside [] h = absurd (omega arith)

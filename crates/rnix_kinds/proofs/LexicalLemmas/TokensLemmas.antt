@@ -26,7 +26,7 @@ drop_one_less : (n b : ℕ) (text : List ℕ) → 0 < n → drop (n - 1) text �
 drop_one_less zero b text h = absurd (omega arith)
 drop_one_less (suc n) b text h = let e : suc n - 1 ≡ n = omega arith in rw e
 
--- the token that begins a text, and the tokens of the rest
+-- the tokens of a text are the one that begins it and those of the rest
 pub tokens_under-cut : (modes : List Mode) (text : List ℕ) (cut : Cut) → 0 < length text → cut_at (top (without_ended_paths modes text)) text ≡ cut
     → 0 < cut.len
     → tokens_under modes text ≡ (cut.kind, take cut.len text) ∷ tokens_under (changed cut.change (without_ended_paths modes text)) (drop cut.len text)
@@ -47,7 +47,7 @@ goes_on_step : (kind : PathStart) (modes : List Mode) (text : List ℕ) (b : Boo
 goes_on_step kind modes text true e h = rw (e) e
 goes_on_step kind modes text false e h = rw (e) h
 
--- settling again changes nothing
+-- ending paths twice is ending them once
 pub without_ended_paths-settled : (modes : List Mode) (text : List ℕ)
     → without_ended_paths (without_ended_paths modes text) text ≡ without_ended_paths modes text
 without_ended_paths-settled [] text = refl
@@ -102,13 +102,13 @@ pub nil_from_length : (xs : List ℕ) → length xs ≡ 0 → xs ≡ []
 nil_from_length [] e = refl
 nil_from_length (x ∷ xs) e = absurd (omega arith)
 
--- the tokens are the same after settling
+-- the tokens of a text do not depend on whether ended paths are removed first
 pub tokens_under-settled : (modes : List Mode) (text : List ℕ) → tokens_under (without_ended_paths modes text) text ≡ tokens_under modes text
 unfolding tokens_behind
 tokens_under-settled modes [] = refl
 tokens_under-settled modes (b ∷ text) = rw (without_ended_paths-settled modes (b ∷ text)) refl
 
--- after `${` in a path comes an interpolation
+-- after `${` in a path, an interpolation is open
 interpolation_cut : (start : PathStart) (text : List ℕ) → begins (codes "${") text ≡ true
     → path_cut start text ≡ record { kind = TOKEN_INTERPOL_START; len = 2; change = Open (Interpolation 0) }
 interpolation_cut start text e = rw e refl
@@ -129,7 +129,7 @@ path_interpolates start modes text e =
     let here : cut_at (top (without_ended_paths (Path start ∷ modes) text)) text ≡ cut = rw settled (interpolation_cut start text e) in
     subst InterpolatesFirst (sym (tokens_under-cut (Path start ∷ modes) text cut (begins_some text e) here (omega arith))) refl
 
--- a token that opens a mode, before the tokens that follow it
+-- a token that opens a mode, before the tokens after it
 path_opens_first : (change : Change) (modes : List Mode) (text : List ℕ) → IsPathBegun change → begins (codes "${") text ≡ true
     → InterpolatesFirst (tokens_under (changed change modes) text)
 path_opens_first (Open (Path start)) modes text begun e = path_interpolates start modes text e

@@ -1,4 +1,4 @@
--- Facts on the words on texts.
+-- Facts about the functions on texts.
 use Rattle.std.proofs.Common.{eqb-true, eq-eqb, ◌≡◌, ℕ, zero, suc, ◌+◌, ◌-◌, ◌<◌, ◌≤◌, Bool, true, false, cond, ◌&&◌, ◌==◌, nat_lt, List, [], ◌∷◌, ◌++◌, length}
 use Rattle.std.proofs.Common.{get_or, drop, IsUtf8, refl, sym, ap, ◌∙◌, subst, inl, inr, arith, add-one, add-zero, zero-add, get_or-drop, append_assoc}
 use Rattle.std.proofs.{Common.{length-append, length-drop}, lemmas.{Bool.{cases_lt, and_parts, Decides.nat_tests}, List.{drop_more, get_or_past}}}
@@ -10,7 +10,7 @@ use Rattle.rnix_kinds.specs.declared.tokenizer.{ahead.Ahead.Ahead, text.Class.{C
 use Rattle.rnix_kinds.specs.Lexical.{Classes.class_test, Ahead.{IsRunEnd, IsAhead}, Texts.{before_pair, is_blank, space_len, char_len}}
 use lib.Utf8.{encode}
 
--- one turn of `before_pair`, at an index
+-- one step of `before_pair`, at an index
 pub before_pair-turn : (a b : ℕ) (xs : List ℕ) (i : ℕ) → i < length xs
     → before_pair a b (drop i xs) ≡ cond ((get_or xs i 0 == a) && (get_or xs (i + 1) 0 == b)) 0 (1 + before_pair a b (drop (i + 1) xs))
 unfolding before_pair
@@ -28,7 +28,7 @@ unfolding chars
 chars-ascii b [] h = let low : nat_lt b 128 ≡ true = grind (arith, nat_tests) in rw low refl
 chars-ascii b (c ∷ text) h = let low : nat_lt b 128 ≡ true = grind (arith, nat_tests) in rw low refl
 
--- white space ends before an ASCII byte that is none, and at the end
+-- white space ends before an ASCII byte that is none, and at the end of the text
 pub space_len-stop : (text : List ℕ) → get_or text 0 0 < 128 → is_whitespace (get_or text 0 0) ≡ false → space_len text ≡ 0
 unfolding space_len
 space_len-stop [] low out = rw chars-nil refl
@@ -40,19 +40,19 @@ blank_more b cs low white =
     let more : 1 + prefix_len is_whitespace cs ≡ suc (prefix_len is_whitespace cs) = omega arith in
     rw (white, more) (omega (arith, length-append (encode b) (encode_utf8_all (take_while is_whitespace cs)), ap length (encode_ascii b low)))
 
--- and continues past one that is
+-- white space continues after an ASCII byte that is white space
 pub space_len-step : (b : ℕ) (text : List ℕ) → b < 128 → is_whitespace b ≡ true → space_len (b ∷ text) ≡ 1 + space_len text
 unfolding space_len
 space_len-step b text low white = rw (chars-ascii b text low) (blank_more b (chars text) low white)
 
--- a blank is white space, and no other byte of ASCII is
+-- a blank is an ASCII byte and white space
 blank_is : (b : ℕ) → is_blank b ≡ true → (b < 128) × (is_whitespace b ≡ true)
 blank_is b e = grind (arith, nat_tests)
 
 no_blank : (b : ℕ) → b < 128 → is_blank b ≡ false → is_whitespace b ≡ false
 no_blank b low e = grind (arith, nat_tests)
 
--- blanks are all the white space at the front, where a byte of ASCII follows them, or none
+-- if an ASCII byte or nothing follows the blanks at the beginning, they are all of the white space there
 pub space_len-blanks : (text : List ℕ) → get_or text (prefix_len is_blank text) 0 < 128 → space_len text ≡ prefix_len is_blank text
 space_len-blanks [] h = space_len-stop [] (omega arith) refl
 space_len-blanks (b ∷ text) h = blank_cases (space_len-blanks text) (is_blank b) refl h
@@ -67,7 +67,7 @@ space_len-blanks (b ∷ text) h = blank_cases (space_len-blanks text) (is_blank 
 shows : (b : ℕ) → 32 < b → b < 127 → is_whitespace b ≡ false
 shows b low high = grind (arith, nat_tests)
 
--- a blank is all of them before a byte of ASCII that shows
+-- a single blank before a visible ASCII byte is all of the white space
 pub space_len-one : (text : List ℕ) → is_blank (get_or text 0 0) ≡ true → 32 < get_or text 1 0 → get_or text 1 0 < 127 → space_len text ≡ 1
 space_len-one [] white low high = absurd (omega arith)
 space_len-one (b ∷ text) white low high =
@@ -81,7 +81,7 @@ space_step c cs true e h =
     rw (e, more, append_assoc, h)
 space_step c cs false e h = rw e
 
--- the white space at the front, and the rest
+-- the white space at the beginning and the rest are the whole text
 space_split : (cs : List ℕ) → encode_utf8_all (take_while is_whitespace cs) ++ encode_utf8_all (skip_leading_whitespace cs) ≡ encode_utf8_all cs
 space_split [] = refl
 space_split (c ∷ cs) = space_step c cs (is_whitespace c) refl (space_split cs)
@@ -93,7 +93,7 @@ space_len-trim_start text utf8 =
     = space_split (chars text) ∙ encodes-chars text utf8 in
     omega (arith, simp length-append at (ap length parts))
 
--- a byte that is not 0 was read inside the text
+-- an index at which a byte other than 0 is read is within the text
 pub within_from_byte : (xs : List ℕ) (i : ℕ) → 0 < get_or xs i 0 → i < length xs
 within_from_byte xs i h = elim (cases_lt i (length xs)) [ inl within ↦ within | inr past ↦ absurd (omega (arith, get_or_past xs i 0 past)) ]
 
@@ -102,11 +102,11 @@ after_ascii_run p bs zero e utf8 ascii = IsCharBoundary-start bs utf8
 after_ascii_run p bs (suc k) e utf8 ascii =
     rw (← add-one) (IsCharBoundary-after_ascii bs k utf8 (omega (arith, prefix_len-le-length p bs)) (ascii _ (prefix_len_passes p bs k 0 (omega arith))))
 
--- a run of ASCII bytes ends where a character does
+-- a run of ASCII bytes ends at a character boundary
 pub IsCharBoundary-ascii_run : (p : ℕ → Bool) (bs : List ℕ) → IsUtf8 bs → ((c : ℕ) → p c ≡ true → c < 128) → IsCharBoundary bs (prefix_len p bs)
 IsCharBoundary-ascii_run p bs = after_ascii_run p bs _ refl
 
--- and so does a run that only an ASCII byte stops
+-- so does a run that only an ASCII byte ends
 pub IsCharBoundary-wide_run : (p : ℕ → Bool) (bs : List ℕ) → ((c : ℕ) → p c ≡ false → c < 128) → IsCharBoundary bs (prefix_len p bs)
 IsCharBoundary-wide_run p bs ascii =
     elim (cases_lt (prefix_len p bs) (length bs)) [
@@ -114,7 +114,7 @@ IsCharBoundary-wide_run p bs ascii =
       | inr past ↦ subst (IsCharBoundary bs) (omega (arith, prefix_len-le-length p bs)) (IsCharBoundary-end bs)
     ]
 
--- of any class
+-- so does a run of any class
 pub IsCharBoundary-run : (class : Class) (bs : List ℕ) → IsUtf8 bs → IsCharBoundary bs (prefix_len (class_test class) bs)
 IsCharBoundary-run Digit bs utf8 = IsCharBoundary-ascii_run (class_test Digit) bs utf8 (λ c e. grind (arith, nat_tests))
 IsCharBoundary-run Name bs utf8 = IsCharBoundary-ascii_run (class_test Name) bs utf8 (λ c e. grind (arith, nat_tests))
@@ -138,13 +138,13 @@ prefix_len_drop_step p false n x xs e h more =
     let none : prefix_len p (x ∷ xs) ≡ 0 = rw e in
     absurd (omega arith)
 
--- a run is shorter by what was passed of it
+-- without its first bytes, a run is shorter by these
 prefix_len-drop : (p : ℕ → Bool) (n : ℕ) (xs : List ℕ) → n < prefix_len p xs → prefix_len p (drop n xs) ≡ prefix_len p xs - n
 prefix_len-drop p zero xs h = omega arith
 prefix_len-drop p (suc n) [] h = absurd (omega arith)
 prefix_len-drop p (suc n) (x ∷ xs) h = prefix_len_drop_step p (p x) n x xs refl h (prefix_len-drop p n xs)
 
--- where a run ends stays, whatever is passed of it
+-- where a run ends does not depend on how much of it was passed
 pub IsRunEnd-pass : (class : Class) (remaining n : ℕ) (text : List ℕ) → IsRunEnd class remaining text → IsRunEnd class remaining (drop n text)
 IsRunEnd-pass class remaining n text ahead inside =
     let size = length-drop n text in
@@ -207,7 +207,7 @@ found_step a b x xs false e more h =
     let next : 1 + before_pair a b xs + 1 ≡ suc (before_pair a b xs + 1) = omega arith in
     rw (e, next) (more (omega arith))
 
--- after them come the pair's bytes
+-- the pair's bytes follow the bytes before the pair
 pub before_pair-found : (a b : ℕ) (xs : List ℕ) → before_pair a b xs < length xs → get_or xs (before_pair a b xs + 1) 0 ≡ b
 before_pair-found a b [] h = absurd (omega arith)
 before_pair-found a b (x ∷ xs) h = found_step a b x xs _ refl (before_pair-found a b xs) h
@@ -226,7 +226,7 @@ pub before_pair-begins : (a b : ℕ) (xs : List ℕ) → before_pair a b xs < le
 before_pair-begins a b [] h = absurd (omega arith)
 before_pair-begins a b (x ∷ xs) h = begins_step a b x xs _ refl (before_pair-begins a b xs) h
 
--- no pair comes before it
+-- there is no earlier pair
 pub before_pair-first : (a b : ℕ) (xs : List ℕ) (k : ℕ) → get_or xs k 0 ≡ a → get_or xs (k + 1) 0 ≡ b → k < length xs → before_pair a b xs ≤ k
 unfolding before_pair
 before_pair-first a b [] k e f h = absurd (omega arith)
