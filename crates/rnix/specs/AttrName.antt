@@ -57,7 +57,7 @@ constant_by _ e = None
 abbrev pub inside_of : Located → Option Located
 inside_of e = if same_kind k.NODE_PAREN (item_of e).kind then child_of is_expr 0 e else None
 
--- more of the expression inside, if there is one
+-- a function of the expression inside, if there is one; otherwise the expression itself
 abbrev pub next_inside : (Located → Located) → Located → Option Located → Located
 next_inside more e None = e
 next_inside more e (Some inner) = more inner
@@ -71,12 +71,12 @@ inside_parens (suc count) e = next_inside (inside_parens count) e (inside_of e)
 abbrev pub without_parens : Located → Located
 without_parens e = inside_parens (inside_count e) e
 
--- the same of the expression in `${` and `}`, perhaps in parentheses, if there is one
+-- the value of the expression in `${` and `}`, without parentheses around it, if there is one and Nix knows its value without evaluation
 abbrev pub constant_of : Option Located → Option (List ℕ)
 constant_of None = None
 constant_of (Some e) = constant_by (item_of (without_parens e)).kind (without_parens e)
 
--- what an attribute of a kind is called: an identifier is its name, a string in `"` is its value, and `${` with `}` what is between
+-- what an attribute of a kind is called: an identifier by its name, a string in `"` by its value, `${` with `}` by the value of what is between
 abbrev pub name_by : SyntaxKind → Located → Option (List ℕ)
 name_by k.NODE_IDENT e = Some (text_at e)
 name_by k.NODE_STRING e = if is_indented e then None else plain_value e

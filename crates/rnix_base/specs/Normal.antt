@@ -103,7 +103,7 @@ opens_blank text = slice_index text (spaces text) == 10
 abbrev pub behind_blank : List ℕ → List ℕ
 behind_blank text = drop (suc (spaces text)) text
 
--- a text begins so, and this follows
+-- a text begins with a line feed, or with spaces and a line feed, and this follows
 abbrev pub IsBehindBlank : List ℕ → List ℕ → Type 0
 IsBehindBlank text rest = (opens_blank text ≡ true) × (rest ≡ behind_blank text)
 

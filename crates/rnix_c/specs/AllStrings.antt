@@ -18,7 +18,7 @@ pub record Found : Type 0 where
 abbrev pub found : List RnixStringPart → List ℕ → Found
 found parts text = record { parts = parts; text = text }
 
--- a part more of the string that is the element of this number: of a literal its range in the joined text, of an interpolation its range in the text
+-- one more part of the string that is the element with this number: of a literal its range in the joined text, of an interpolation its range in the text
 -- that was read
 abbrev pub with_part : ℕ → Found → InterpolPart (List ℕ) Located → Found
 with_part string before (Literal text) =
@@ -27,11 +27,11 @@ with_part string before (Literal text) =
 with_part string before (Interpolation node) =
     found (before.parts ++ record { string = string; start = (item_of node).start; end = (item_of node).end; is_interpolation = 1 } ∷ []) before.text
 
--- the normalized parts of a node more, if it is a string
+-- with the normalized parts of a node, if it is a string
 abbrev pub with_node : Found → Located → Found
 with_node before node = if same_kind NODE_STRING (item_of node).kind then fold (with_part node.number) before (normalized_parts node) else before
 
--- the same of an element
+-- the same for an element
 abbrev pub with_element : Found → Spot → Found
 with_element before spot = if spot.0 then with_node before spot.1 else before
 

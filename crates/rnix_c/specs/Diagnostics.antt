@@ -17,7 +17,7 @@ pub record Said : Type 0 where
 abbrev pub said : List RnixDiagnostic → List ℕ → Said
 said records messages = record { records = records; messages = messages }
 
--- a diagnostic more: its range in the text, and that of its message in the joined messages
+-- with one more diagnostic: its range in the text, and the range of its message in the joined messages
 abbrev pub with_diagnostic : Said → Diagnostic → Said
 with_diagnostic before diagnostic =
     said

@@ -19,7 +19,7 @@ tokens_written text = tokens_from 0 (tokens_of text)
 abbrev pub AreBegun : List ℕ → List RnixToken → List RnixToken → Type 0
 AreBegun text old new = (n : ℕ) × (new ≡ filled (take n (tokens_written text)) old)
 
--- memory is refused when some of the tokens are written, or all are, as far as there is room, and their number is answered
+-- memory is refused when some of the tokens are written, or all are, as far as there is room, and their number is returned
 abbrev pub WritesTokens : List ℕ → ℤ → List RnixToken → List RnixToken → Type 0
 WritesTokens text answer old new = ((answer ≡ no_memory) × AreBegun text old new) ⊎ IsWritten (tokens_written text) answer old new
 

@@ -32,11 +32,11 @@ expected_set_of TOKEN_INTERPOL_END = u.InterpolEnd
 expected_set_of TOKEN_STRING_END = u.StringEnd
 expected_set_of kind = u.Ident
 
--- a token that is wanted
+-- where a token of a kind is wanted
 abbrev pub token_action : SyntaxKind → ℕ → ℕ → SyntaxKind → Action
 token_action wanted index after kind = if same_kind wanted kind then a.Take after else a.Run (expected_set_of wanted) index
 
--- a name that is wanted
+-- where a name is wanted
 abbrev pub name_action : ℕ → ℕ → SyntaxKind → Action
 name_action index after TOKEN_IDENT = a.Leaf NODE_IDENT after
 name_action index after kind = a.Run u.Ident index
@@ -57,7 +57,7 @@ entries_action closer index after None = a.Miss after
 entries_action closer index after (Some TOKEN_INHERIT) = a.Open NODE_INHERIT INHERIT index
 entries_action closer index after (Some kind) = if same_kind closer kind then a.Take after else a.OpenEmpty NODE_ATTRPATH_VALUE ATTRPATH_VALUE index
 
--- inside a string
+-- inside a string: its content, an interpolation, or its closing quotes
 abbrev pub pieces_action : ℕ → ℕ → Option SyntaxKind → Action
 pieces_action index after None = a.MissWanted u.Piece after
 pieces_action index after (Some TOKEN_STRING_END) = a.Take STRING_CLOSED
@@ -65,7 +65,7 @@ pieces_action index after (Some TOKEN_STRING_CONTENT) = a.Take index
 pieces_action index after (Some TOKEN_INTERPOL_START) = a.Open NODE_INTERPOL INTERPOL index
 pieces_action index after (Some kind) = a.Run u.Piece index
 
--- a piece of a path
+-- where a path may continue: a piece of the path, an interpolation, or the end of the path
 abbrev pub piece_action : ℕ → Option SyntaxKind → Action
 piece_action index (Some TOKEN_PATH_ABS) = a.Take index
 piece_action index (Some TOKEN_PATH_REL) = a.Take index
@@ -77,7 +77,7 @@ piece_action index next = a.Close
 abbrev pub path_pieces_action : ℕ → Bool → Option SyntaxKind → Action
 path_pieces_action index touches next = if touches then piece_action index next else a.Close
 
--- a name, a string or an interpolation; after a run of other items, at another position
+-- where an attribute is wanted: a name, a string or an interpolation; `again` is the position after a run of other items
 abbrev pub attr_action : ℕ → ℕ → Option SyntaxKind → Action
 attr_action again after None = a.MissWanted u.Attr after
 attr_action again after (Some TOKEN_INTERPOL_START) = a.Open NODE_DYNAMIC DYNAMIC after
@@ -103,7 +103,7 @@ abbrev pub more_attrs_action : Option SyntaxKind → Action
 more_attrs_action (Some TOKEN_DOT) = a.Take ATTRPATH
 more_attrs_action next = a.Close
 
--- inside the braces of a pattern, where a formal may be, by whether a name is bound before them
+-- inside the braces of a pattern, where a formal may be; `bound` means that a name and `@` precede the braces
 abbrev pub formals_action : Bool → ℕ → Option SyntaxKind → Action
 formals_action bound after None = a.MissWanted u.Entry after
 formals_action bound after (Some TOKEN_R_BRACE) = a.Take after
@@ -123,7 +123,7 @@ comma_action bound after (Some kind) =
     if same_kind kind TOKEN_COMMA then a.Take (if bound then BOUND_AFTER_COMMA else AFTER_COMMA)
     else wanted_action TOKEN_R_BRACE (if bound then BOUND_PATTERN_CLOSE else PATTERN_CLOSE) after (Some kind)
 
--- where a row may end before a child of a kind
+-- where a child of a kind or the end of the row comes next
 abbrev pub end_or_action : SyntaxKind → ℕ → Option SyntaxKind → Action
 end_or_action TOKEN_OR after (Some TOKEN_OR) = a.Take after
 end_or_action TOKEN_QUESTION after (Some TOKEN_QUESTION) = a.Take after
@@ -143,19 +143,19 @@ abbrev pub end_action : Option SyntaxKind → Action
 end_action None = a.Finish
 end_action (Some kind) = a.Extra
 
--- a child that every such node has
+-- where the next child is one that each node of the kind has
 abbrev pub child_action : ℕ → Option SyntaxKind → Action
 child_action after None = a.Miss after
 child_action after (Some kind) = a.Take after
 
--- the end of a row of a node of a kind
+-- at the end of the row of a node of a kind
 abbrev pub close_action : SyntaxKind → Action
 close_action NODE_PAT_ENTRY = a.CloseEntry
 close_action NODE_PATTERN = a.ClosePattern
 close_action NODE_ERROR = a.CloseDoubleBind
 close_action kind = a.Close
 
--- another position
+-- the two indices differ
 abbrev pub is_not : ℕ → ℕ → Bool
 is_not index other = if nat_eq index other then false else true
 
@@ -180,18 +180,18 @@ part_action r.BoundAlready index next touches = bound_action (index + 1) next
 part_action r.TextEnd index next touches = end_action next
 part_action part index next touches = child_action (index + 1) next
 
--- what continues an operand
+-- how a token continues an operand
 abbrev pub continue_action : SyntaxKind → Action
 continue_action TOKEN_DOT = a.Wrap NODE_SELECT (p.InRow SELECT) application_level
 continue_action TOKEN_OR = a.ApplyOr
 continue_action TOKEN_QUESTION = a.Wrap NODE_HAS_ATTR (p.InRow HAS_ATTR) has_attr_level
 continue_action kind = if is_fn_arg kind then a.Apply else a.Wrap NODE_BIN_OP (p.Right (right_of kind)) (max_bp_of kind)
 
--- an operator continues an operand if its level is between these
+-- an operator may continue an operand: its level is between the two
 abbrev pub may_continue : ℕ → ℕ → SyntaxKind → Bool
 may_continue min_bp max_bp kind = nat_le 1 (binding_power kind) && (nat_le min_bp (binding_power kind) && nat_le (binding_power kind) max_bp)
 
--- after an operand: what continues it at a level between two, or its end
+-- after an operand: a token whose level is between the two continues it; otherwise the operand ends
 abbrev pub more_action : ℕ → ℕ → Option SyntaxKind → Action
 more_action min_bp max_bp None = a.EndOperand
 more_action min_bp max_bp (Some kind) = if may_continue min_bp max_bp kind then continue_action kind else a.EndOperand

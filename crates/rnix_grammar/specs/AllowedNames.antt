@@ -17,7 +17,7 @@ is_no_or t = if is_or t.kind then false else true
 abbrev pub is_plain : Token → Bool
 is_plain t = if is_or t.kind then false else (if is_cur_pos t.text then false else true)
 
--- a token that is the current position
+-- a token that is `__curPos`, by its kind or by its text
 abbrev pub is_position : SyntaxKind → List ℕ → Bool
 is_position TOKEN_CUR_POS text = true
 is_position kind text = is_cur_pos text
@@ -26,7 +26,7 @@ is_position kind text = is_cur_pos text
 abbrev pub is_called : Token → Bool
 is_called t = if is_or t.kind then true else (if is_cur_pos t.text then false else true)
 
--- the name is allowed where this is left of a row
+-- the name is allowed at this position of a row
 abbrev pub is_name_at : Row → Token → Bool
 is_name_at (Attr · r) t = true
 is_name_at (Names · r) t = true
@@ -37,17 +37,17 @@ is_name_at (Argument · r) t = is_called t
 is_name_at (r or s) t = is_name_at r t
 is_name_at r t = is_plain t
 
--- a token may be that of a name or of the current position where this is left of a row
+-- a node of the kind may have this token at this position of a row; only names and `__curPos` are restricted
 abbrev pub is_named_by : Row → SyntaxKind → Token → Bool
 is_named_by q NODE_IDENT t = is_name_at q t
 is_named_by q NODE_CUR_POS t = is_position t.kind t.text
 is_named_by q kind t = true
 
--- and so for a token that may be absent
+-- the same for a token that may be absent
 abbrev pub is_named_in : Row → SyntaxKind → Option Token → Bool
 is_named_in q kind None = true
 is_named_in q kind (Some t) = is_named_by q kind t
 
--- a node is a name or the current position only if its token may be one where this is left of a row
+-- the same for the first child of a node, if that is a token
 abbrev pub is_named : Row → SyntaxKind → AnnotatedForest → Bool
 is_named q kind c = is_named_in q kind (only_token c)

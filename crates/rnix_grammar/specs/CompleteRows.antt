@@ -8,11 +8,11 @@ abbrev pub after_all : Row → List SyntaxKind → Row
 after_all r [] = r
 after_all r (kind ∷ kinds) = after_all (after r kind) kinds
 
--- these kinds of children are a row of a node of the kind
+-- children of these kinds are a row of a node of the kind
 abbrev pub is_row : SyntaxKind → List SyntaxKind → Bool
 is_row node kinds = may_end (after_all (row node) kinds)
 
--- these kinds begin such a row
+-- children of these kinds begin such a row
 pub record IsBeginning (node : SyntaxKind) (kinds : List SyntaxKind) : Type 0 where
   pub more : List SyntaxKind
   pub is : may_end (after_all (after_all (row node) kinds) more) ≡ true

@@ -14,7 +14,7 @@ node_count (node k c f) = suc (node_count f)
 abbrev pub is_one : ℕ → Bool
 is_one n = nat_eq n 1
 
--- the nodes whose operands may not be lambdas
+-- the kinds of nodes whose operands may not be lambdas
 abbrev pub holds_no_lambda : SyntaxKind → Bool
 holds_no_lambda NODE_APPLY = true
 holds_no_lambda NODE_SELECT = true

@@ -65,7 +65,7 @@ kinds_text (kind ∷ kinds) = codes "[" ++ name_of kind ++ more_kinds_text kinds
 abbrev pub wanted_text : List SyntaxKind → List ℕ
 wanted_text kinds = codes ", wanted any of " ++ kinds_text kinds
 
--- the repetition of a name
+-- what follows the name in the message about a repeated name
 abbrev pub again_text : Extent → List ℕ
 again_text range = codes "` is duplicated in " ++ extent_text range
 

@@ -145,7 +145,7 @@ mutual
     bound_pattern : {f : Forest} {s t u : List ℕ} → is_or t ≡ false → Formals true [] f
         → Parameter NODE_PATTERN (node NODE_PAT_BIND (name t (leaf TOKEN_AT s empty)) (leaf TOKEN_L_BRACE u f))
 
-  -- the rest of a pattern; known are whether a name precedes it and the names of its entries so far, which no further entry repeats
+  -- the rest of a pattern, by whether a name precedes the pattern and by the names of its entries so far, which no further entry repeats
   pub data Formals : Bool → List (List ℕ) → Forest → Type 0 where
     formals_end : {bound : Bool} {names : List (List ℕ)} {f : Forest} {s : List ℕ} → PatternEnd bound f → Formals bound names (leaf TOKEN_R_BRACE s f)
     ellipsis : {bound : Bool} {names : List (List ℕ)} {f : Forest} {s t : List ℕ} → PatternEnd bound f

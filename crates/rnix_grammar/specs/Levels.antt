@@ -10,7 +10,7 @@ use Rattle.rnix_grammar.specs.declared.level.Associativity.TheVariants.{Left, Ri
 abbrev pub expression_level : ℕ
 expression_level = 0
 
--- no operator has this level: it is that of tokens that end an expression, and the highest allowed after an expression that extends as far as possible
+-- a level that no operator has: that of tokens that end an expression, and the highest allowed after an expression that extends as far as possible
 abbrev pub no_level : ℕ
 no_level = 0
 

@@ -19,24 +19,24 @@ abbrev pub is_bind_at : Row → AnnotatedForest → Bool
 is_bind_at (EndOr kind · r) c = begins_with_token c
 is_bind_at r c = if begins_with_token c then false else true
 
--- the name of a pattern, any other name and the current position are allowed where this is left of a row
+-- a node that is the name of a pattern, another name or `__curPos` is allowed at this position of a row
 abbrev pub is_name_allowed : Row → SyntaxKind → AnnotatedForest → Bool
 is_name_allowed q NODE_PAT_BIND c = is_bind_at q c
 is_name_allowed q kind c = is_named q kind c
 
--- so are all of a forest, where this is left of the row
+-- the same for all nodes of a forest that begins at this position of a row
 abbrev pub AreNamed : Row → AnnotatedForest → Type 0
 AreNamed q blank = Unit {0}
 AreNamed q (token k t f) = AreNamed (after q k) f
 AreNamed q (branch k c f) = (is_name_allowed q k c ≡ true) × AreNamed (row k) c × AreNamed (after q k) f
 AreNamed q (fault n c f) = AreNamed (after_error q n) f
 
--- a name is repeated
+-- the error is about a repeated name
 abbrev pub is_repeated : Fault → Bool
 is_repeated (duplicated_args range name) = true
 is_repeated e = false
 
--- no error meets the test
+-- no error passes the test
 abbrev pub Lacks : (Fault → Bool) → List Fault → Type 0
 Lacks test [] = Unit {0}
 Lacks test (e ∷ es) = (test e ≡ false) × Lacks test es

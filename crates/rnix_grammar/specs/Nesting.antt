@@ -5,19 +5,19 @@ use Rattle.rnix_grammar.specs.AnnotatedForest.{Note, TooDeep, AnnotatedForest, b
 use Rattle.rnix_grammar.specs.Rules.{Row, row, after, counts}
 use Rattle.rnix_grammar.specs.BehindErrors.{after_error}
 
--- how many counted positions are inside one another in a forest, where this is left of the row; an error node counts none
+-- how many counted positions are inside one another in a forest that begins at this position of a row; an error node counts none
 abbrev pub depth_of : Row → AnnotatedForest → ℕ
 depth_of q blank = 0
 depth_of q (token k t f) = depth_of (after q k) f
 depth_of q (branch k c f) = max (if counts q then suc (depth_of (row k) c) else depth_of (row k) c) (depth_of (after q k) f)
 depth_of q (fault n c f) = depth_of (after_error q n) f
 
--- an error node over what is nested too deep is inside as many counted positions as the limit allows; d of them are around it
+-- the error node over what is nested too deep has as many counted positions around it, d, as the limit allows
 abbrev pub IsLimited : ℕ → Note → Type 0
 IsLimited d TooDeep = d ≡ depth_limit
 IsLimited d n = Unit {0}
 
--- and so is each such error node in a forest
+-- the same for each error node of a forest that begins at this position of a row
 abbrev pub AreLimited : ℕ → Row → AnnotatedForest → Type 0
 AreLimited d q blank = Unit {0}
 AreLimited d q (token k t f) = AreLimited d (after q k) f

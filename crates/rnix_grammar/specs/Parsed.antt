@@ -51,10 +51,10 @@ pub record IsParsed (tokens : List Lexeme) (tree : Tree) (faults : List Fault) :
   -- if the items have a derivation, there are no errors, and the tree without trivia is that derivation
   pub found : (derivation : Forest) → IsDerivation derivation (items (placed_from 0 tokens)) → (faults ≡ [])
       × (forget (without_trivia reading.annotated) ≡ derivation)
-  -- without errors at the end of the text and repeated names, the repaired tree is an expression of the strict grammar if it has no accepted extension
+  -- without errors at the end of the text or about repeated names, the repaired tree is an expression of the strict grammar if it has no accepted extension
   pub converse : ended_count faults ≡ 0 → Lacks is_repeated faults → has_no_extension NODE_ROOT (repaired (without_trivia reading.annotated)) ≡ true
       → IsExpression (repaired (without_trivia reading.annotated))
-  -- where the pieces of its paths touch, a text is read without errors and accepted extensions exactly if its items have a derivation
+  -- if the pieces of its paths touch, a text is read without errors and without accepted extensions exactly if its items have a derivation
   pub exactly : ArePaths (without_trivia reading.annotated) [] → ((faults ≡ [])
       × (has_no_extension NODE_ROOT (forget (without_trivia reading.annotated)) ≡ true))
       ↔ ((derivation : Forest) × IsDerivation derivation (items (placed_from 0 tokens)))

@@ -22,7 +22,7 @@ abbrev pub joins_first : ℕ → AnnotatedForest → List Token → Bool
 joins_first n blank rest = true
 joins_first n f rest = joins n f rest
 
--- the children of a path touch so, after its first token
+-- the children of a path are one token; or they touch one another, and what follows does not continue them
 abbrev pub is_joined : AnnotatedForest → List Token → Bool
 is_joined (token k t f) rest = joins_first t.end f rest
 is_joined f rest = true
@@ -34,7 +34,7 @@ is_path NODE_PATH_REL = true
 is_path NODE_PATH_HOME = true
 is_path kind = false
 
--- so it is with each path of a forest before these items
+-- this holds for each path of a forest before these items
 abbrev pub ArePaths : AnnotatedForest → List Token → Type 0
 ArePaths blank rest = Unit {0}
 ArePaths (token k t f) rest = ArePaths f rest

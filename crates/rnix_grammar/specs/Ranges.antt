@@ -29,7 +29,7 @@ abbrev pub is_error_node : SyntaxKind → Bool
 is_error_node NODE_ERROR = true
 is_error_node kind = false
 
--- an error node is left
+-- the event leaves an error node
 abbrev pub leaves_error : Event → Bool
 leaves_error event = if event.0 then false else (if event.1.0 then is_error_node (item_of event.1.1).kind else false)
 

@@ -11,7 +11,7 @@ use Rattle.rnix_grammar.specs.UnwantedRun.{run_of}
 use Rattle.rnix_grammar.specs.FirstKinds.{IsOperandOf}
 use Rattle.rnix_grammar.specs.Rules.{Row, done, ◌·◌, row, second_name, after, may_end, missing, run_at, expects_end, IsExpected, is_first_expected, level_at, counts, IsFollowed}
 
--- the limit allows an operand here, inside d counted positions
+-- the nesting limit allows an operand at this position, inside d counted positions
 abbrev pub IsRoom : Row → ℕ → Type 0
 IsRoom q d = counts q ≡ true → d < depth_limit
 

@@ -70,22 +70,22 @@ is_misplaced (unwanted kind range kinds) = true
 is_misplaced (extra range) = true
 is_misplaced e = false
 
--- no error is about such tokens
+-- no error is about unwanted or extra tokens
 abbrev pub NoneMisplaced : List Fault → Type 0
 NoneMisplaced [] = Unit {0}
 NoneMisplaced (e ∷ es) = (is_misplaced e ≡ false) × NoneMisplaced es
 
--- after an error at the end of the text, no error is about such tokens
+-- after an error at the end of the text, no error is about unwanted or extra tokens
 abbrev pub NoErrorAfterEnd : List Fault → Type 0
 NoErrorAfterEnd [] = Unit {0}
 NoErrorAfterEnd (e ∷ es) = NoErrorAfterEnd es × ((is_ended e ≡ true) → NoneMisplaced es)
 
--- a list of wanted kinds is one of the fixed lists
+-- the list of wanted kinds of an error, if it has one, is one of the fixed lists
 abbrev pub IsNamedList : Fault → Type 0
 IsNamedList (unexpected_eof_wanted kinds) = (until : ExpectedSet) × ((until ≡ End) → ⊥) × (kinds ≡ wanted_kinds until)
 IsNamedList e = Unit {0}
 
--- so is the list of each error
+-- the same for each error
 abbrev pub AreNamedLists : List Fault → Type 0
 AreNamedLists [] = Unit {0}
 AreNamedLists (e ∷ es) = IsNamedList e × AreNamedLists es

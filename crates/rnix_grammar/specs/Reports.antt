@@ -35,7 +35,7 @@ abbrev pub is_same_name : List ℕ → Option Token → Bool
 is_same_name name None = false
 is_same_name name (Some t) = bytes_eq name t.text
 
--- an entry of the name is in a forest
+-- a forest has an entry with the name
 abbrev pub has_entry : List ℕ → AnnotatedForest → Bool
 has_entry name blank = false
 has_entry name (token k t f) = has_entry name f

@@ -198,7 +198,7 @@ abbrev pub expects : Row → ℕ → List Token → Bool
 expects r n [] = expects_end r
 expects r n (t ∷ ts) = expects_item r (nat_eq t.start n) t.kind
 
--- whether it is expected; this is not asked where every such node has the child
+-- whether the next item is expected; this is not asked where every such node has the child
 abbrev pub IsExpected : Row → ℕ → List Token → Bool → Type 0
 IsExpected (Child kind · r) n ts own = Unit {0}
 IsExpected (Atom · r) n ts own = Unit {0}

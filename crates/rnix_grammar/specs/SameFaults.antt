@@ -39,6 +39,6 @@ same_fault-decides (duplicated_args a name) (duplicated_args b other) =
 same_fault-decides too_deep too_deep = (λ e. refl, λ e. refl)
 same_fault-decides a b = (λ e. cc, λ e. cc)
 
--- so the test is an equivalence
+-- equality of errors is symmetric and transitive
 pub same_faults : IsPartialEquivalence (λ (a b : ParseError). same_fault (fault_of a) (fault_of b))
 same_faults = on_per fault_of (partial_equiv_from_equiv (equivalence_from same_fault same_fault-decides))

@@ -52,7 +52,7 @@ leaf_text empty = None
 leaf_text (leaf k t f) = if is_trivia k then leaf_text f else Some t
 leaf_text (node k c f) = None
 
--- the name that a node is
+-- the name, if the node is one
 abbrev pub text_if : SyntaxKind → Forest → Option (List ℕ)
 text_if NODE_IDENT c = leaf_text c
 text_if k c = None

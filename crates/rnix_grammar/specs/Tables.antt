@@ -8,7 +8,7 @@ use Rattle.rnix_green.specs.Equality.{same_kind}
 use Rattle.rnix_grammar.specs.declared.expected_set.ExpectedSet.{ExpectedSet}
 use Rattle.rnix_grammar.specs.declared.expected_set.ExpectedSet.TheVariants.{RParen, LBrace, RBrace, Semicolon, Assign, Colon, Then, Else, InterpolEnd, StringEnd, Ident, Piece, Attr, Entry, End}
 
--- the name of the current position: `__curPos`
+-- the text is `__curPos`
 abbrev pub is_cur_pos : List ℕ → Bool
 is_cur_pos name = bytes_eq name (codes "__curPos")
 

@@ -56,7 +56,7 @@ begins_with_node f = false
 abbrev pub HasSingleTokenName : SyntaxKind → AnnotatedForest → Type 0
 HasSingleTokenName kind c = (kind ≡ NODE_IDENT → is_single_token c ≡ true) × (kind ≡ NODE_PAT_ENTRY → begins_with_node c ≡ true)
 
--- and so for each node of a forest
+-- the same for each node of a forest
 abbrev pub AreNamesSingleTokens : AnnotatedForest → Type 0
 AreNamesSingleTokens blank = Unit {0}
 AreNamesSingleTokens (token k t f) = AreNamesSingleTokens f

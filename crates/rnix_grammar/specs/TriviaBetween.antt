@@ -50,7 +50,7 @@ abbrev pub HasTriviaBetween : Forest → Type 0
 HasTriviaBetween c = (x y z : Forest) → c ≡ join x (join y z) → HasItem (last_leaves x) → AreTrivia (leaf_kinds y) → HasItem (first_leaves z)
     → IsTriviaBetween x y z
 
--- and so for the children of each node
+-- the same for the children of each node
 abbrev pub HaveTriviaBetween : Forest → Type 0
 HaveTriviaBetween empty = Unit {0}
 HaveTriviaBetween (leaf k t f) = HaveTriviaBetween f

@@ -15,7 +15,7 @@ word_of n = n % 2 ^ 32
 abbrev pub packed : SyntaxKind → ℕ → ℕ → ℕ → Packed
 packed k len_or_start parent size = record { len_or_start = word_of len_or_start; parent = word_of parent; size = word_of size; kind = k }
 
--- an element's place
+-- an element's start, or the length of a token before it is placed
 abbrev pub len_or_start_in : Packed → ℕ
 len_or_start_in e = e.len_or_start
 

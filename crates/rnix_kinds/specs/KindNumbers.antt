@@ -1,4 +1,4 @@
--- The numbers that sets of kinds are kept as.
+-- The numbers that represent sets of kinds.
 use Rattle.std.specs.Prelude.{ℕ, ◌≡◌, ◌<◌, ◌^◌, ◌+◌, ◌*◌, ◌/◌, ◌==◌, ◌&&◌, ◌||◌, Bool, true, false, List, [], ◌∷◌, length, if◌then◌else◌, refl}
 use Rattle.std.proofs.Common.{zero, suc, ap, sym, ◌∙◌, arith, get_or}
 use Rattle.std.specs.Int.{bit_at}
@@ -35,11 +35,11 @@ number_from passes (kind ∷ kinds) = as_bit (passes kind) + 2 * number_from pas
 pub number_of : KindSet → ℕ
 number_of kinds = number_from (set.contains kinds) ALL
 
--- two sets have one number
+-- two sets have the same number
 abbrev pub same_number : KindSet → KindSet → Bool
 same_number a b = number_of a == number_of b
 
--- to have one number is an equivalence
+-- having the same number is an equivalence
 pub same_number_laws : IsEquivalence same_number
 same_number_laws = on_equiv number_of nat_eq_equiv
 
@@ -48,12 +48,12 @@ pub kind_cmp_total : IsTotalOrder kind_cmp
 unfolding kind_cmp
 kind_cmp_total = on_total discriminant_of nat_cmp_total
 
--- kinds tie exactly if they have one place
+-- two kinds are equal in the order exactly if they have the same discriminant
 pub tied_by_discriminant : (a b : SyntaxKind) → eq_by_cmp kind_cmp a b ≡ (discriminant_of a == discriminant_of b)
 unfolding kind_cmp
 tied_by_discriminant a b = unsigned_tied (discriminant_of a) (discriminant_of b)
 
--- which kinds are in the set of some kinds
+-- a kind is in the set of a list exactly if a kind of the list has its discriminant
 pub contains-set_of : (kinds : List SyntaxKind) (kind : SyntaxKind) → set.contains (set_of kinds) kind
     ≡ list_any (λ k. discriminant_of kind == discriminant_of k) kinds
 contains-set_of kinds kind = contains-from_list kind_cmp_total kinds kind ∙ same_any kinds
@@ -71,7 +71,7 @@ as_bit-lt : (b : Bool) → as_bit b < 2
 as_bit-lt true = omega arith
 as_bit-lt false = omega arith
 
--- the bits of a number that is made of some kinds
+-- the bit at i is set exactly if the kind at i passes
 number_from-bit : (passes : SyntaxKind → Bool) (kinds : List SyntaxKind) (i : ℕ) (d : SyntaxKind) → i < length kinds
     → bit_at (number_from passes kinds) i ≡ as_bit (passes (get_or kinds i d))
 number_from-bit passes [] i d l = absurd (omega arith)
@@ -91,7 +91,7 @@ number_from-lt passes (k ∷ ks) =
     let power : 2 ^ suc (length ks) ≡ 2 * 2 ^ length ks = pow-succ' 2 (length ks) in
     omega (arith, power)
 
--- the kinds of a list have the places from n on
+-- the discriminants of the kinds in a list are n and the numbers after it, in order
 abbrev have_discriminants : ℕ → List SyntaxKind → Bool
 have_discriminants n [] = true
 have_discriminants n (k ∷ ks) = discriminant_of k == n && have_discriminants (suc n) ks
@@ -108,17 +108,17 @@ all_at test [] i d h l = absurd (omega arith)
 all_at test (k ∷ ks) zero d h l = (and_parts (test k) (list_all test ks) h).0
 all_at test (k ∷ ks) (suc i) d h l = all_at test ks i d (and_parts (test k) (list_all test ks) h).1 (omega arith)
 
--- kinds in one place pass alike
+-- kinds that are equal in the order have the same bit in a number
 same_bit : (n : ℕ) (a b : SyntaxKind) → kind_cmp a b ≡ Equal → (bit_at n (discriminant_of b) == 1) ≡ (bit_at n (discriminant_of a) == 1)
 unfolding kind_cmp
 same_bit n a b e = ap (λ p. bit_at n p == 1) (sym (nat_cmp-IsAntisymmetric (discriminant_of a) (discriminant_of b) e))
 
--- the kinds of a number are those of all whose bits are set in it
+-- the kinds of a number are all those whose bits are set in it
 pub contains-kinds_of : (n : ℕ) (kind : SyntaxKind) → set.contains (kinds_of n) kind ≡ (set.contains (set_of ALL) kind && bit_at n (discriminant_of kind) == 1)
 unfolding kinds_of
 contains-kinds_of n kind = contains-retain (set_of ALL) (λ k. bit_at n (discriminant_of k) == 1) kind (same_bit n kind)
 
--- the bits of a set's number are set for its kinds
+-- the bit at i of a set's number is set exactly if the set contains the kind at i
 pub bit_at-number_of : (kinds : KindSet) (i : ℕ) (d : SyntaxKind) → i < kind_count → bit_at (number_of kinds) i ≡ as_bit (set.contains kinds (get_or ALL i d))
 unfolding number_of
 bit_at-number_of kinds i d l = number_from-bit (set.contains kinds) ALL i d l
@@ -127,7 +127,7 @@ number_of-lt : (kinds : KindSet) → number_of kinds < 2 ^ kind_count
 unfolding number_of
 number_of-lt kinds = number_from-lt (set.contains kinds) ALL
 
--- a number with no other bits is that of the kinds whose bits are set in it
+-- a number that has bits for kinds only is the number of the kinds whose bits are set in it
 pub number_of-kinds_of : (n : ℕ) → n < 2 ^ kind_count → number_of (kinds_of n) ≡ n
 number_of-kinds_of n low = same_from_bits_below kind_count (number_of (kinds_of n)) n (number_of-lt (kinds_of n)) low bits
   where

@@ -107,7 +107,7 @@ name_of NODE_WITH = codes "NODE_WITH"
 abbrev pub kind_count : ℕ
 kind_count = length ALL
 
--- a kind's place in the list
+-- a kind's position in the list of all kinds
 abbrev pub discriminant_of : SyntaxKind → ℕ
 discriminant_of = tag_of the_type
 

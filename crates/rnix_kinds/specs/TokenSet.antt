@@ -8,7 +8,7 @@ use Rattle.rnix_kinds.specs.declared.kinds.SyntaxKind.{SyntaxKind}
 use Rattle.rnix_kinds.specs.contracts.kinds.SyntaxKind.{the_row}
 use Rattle.rnix_kinds.specs.SyntaxKind.{discriminant_of}
 
--- kinds in the order of their places
+-- the order of kinds by their discriminants
 unfoldable pub kind_cmp : SyntaxKind → SyntaxKind → Ordering
 kind_cmp a b = nat_cmp (discriminant_of a) (discriminant_of b)
 

@@ -49,7 +49,7 @@ IsSameFault xs ys (duplicated_args a name) (duplicated_args b other) = AreOfSame
 IsSameFault xs ys too_deep too_deep = Unit {0}
 IsSameFault xs ys d e = ⊥
 
--- so are lists of errors, one by one
+-- the same for two lists of errors, one by one
 abbrev pub AreSameFaults : List Token → List Token → List Fault → List Fault → Type 0
 AreSameFaults xs ys [] [] = Unit {0}
 AreSameFaults xs ys (d ∷ ds) (e ∷ es) = IsSameFault xs ys d e × AreSameFaults xs ys ds es

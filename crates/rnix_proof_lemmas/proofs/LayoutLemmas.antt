@@ -197,7 +197,7 @@ pub nothing_from : (xs : List Token) → items_head xs ≡ [] → xs ≡ []
 nothing_from [] h = refl
 nothing_from (t ∷ ts) h = absurd (cc)
 
--- trivia keep their kinds below every parent
+-- trivia before a node keep their kinds below any parent
 trivia_name : (k : SyntaxKind) → is_trivia k ≡ true → k ≡ leaf_kind_as NODE_IDENT k
 trivia_name TOKEN_OR h = absurd (true_is_not_false (sym h))
 trivia_name _ h = cc

@@ -121,7 +121,7 @@ min_bp_of position = expression_level
 abbrev pub machine : List Frame → List Token → ℕ → List Fault → Machine
 machine fs ts n es = record { frames = fs; remaining = ts; prev_end = n; faults = es }
 
--- a frame is complete and goes to the one below
+-- a complete frame becomes part of the frame below
 abbrev pub closed : Frame → List Frame → List Token → ℕ → List Fault → Machine
 closed f [] ts n es = machine (f ∷ []) ts n es
 closed f (g ∷ fs) ts n es = machine (put g.position (g.children ⊕ made f.head f.children) g ∷ fs) ts n es
@@ -149,7 +149,7 @@ limited trivia f fs ts n es =
     ∷ fs)
     (skip_trivia trivia (run_rest trivia (next_items trivia ts) ts)) (end_from n (next_items trivia ts)) (es ++ too_deep ∷ [])
 
--- an operand begins with the next item, inside so many counted positions: f waits below
+-- an operand begins with the next item, inside so many counted positions; f is the frame below
 abbrev pub begun : Bool → OperandStart → ℕ → ℕ → Token → Frame → List Frame → List Token → ℕ → List Fault → Machine
 begun trivia (b.Leaf k) level d t f fs ts n es =
     machine (opened Operand (p.AfterOperand level selection_level) d (one_branch k (leaf trivia k ts))

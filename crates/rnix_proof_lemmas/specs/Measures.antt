@@ -41,7 +41,7 @@ start_measure_in (Some (Next Attrpath)) = 0
 start_measure_in (Some (Next Attr)) = 0
 start_measure_in slot = full_start_measure
 
--- so it is at a position
+-- the same at a position
 abbrev pub start_measure : Position → ℕ
 start_measure (p.InRow index) = start_measure_in (slot_at index)
 start_measure (p.AfterOperand min_bp max_bp) = full_start_measure

@@ -9,7 +9,7 @@ ghost use Rattle.rnix_proof_locality.specs.ReadAlone.{expressions_in, IsDerived,
 
 /// Let the tree of the first text be a derivation. Then each expression in it is a derivation of its own items. If the items of the second text have the
 /// same kinds and texts as those of such an expression, one by one, and touch alike inside paths, the second text is read as that expression, without
-/// errors. So it is in a broken first text too, for each expression that is a derivation of its own items.
+/// errors. The same holds in any first text, for each expression that is a derivation of its own items.
 pub fn locality(first: &str, second: &str)
     ensures parts { OfRead first.now (λ tree faults. IsDerivation (significant tree.children) (items_of first.now)
         → All IsDerived (expressions_in first.now tree)) }

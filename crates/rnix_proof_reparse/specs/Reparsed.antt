@@ -29,7 +29,7 @@ pub record IsEdited (before old after new : List ℕ) (place : Context) (kind re
   pub alone : IsReading (tokens_of new) (rooted (node kind (between remaining opening edited right closing) empty)) []
   pub shallow : levels_around NODE_ROOT kind place + nest kind (significant (between remaining opening edited right closing)) ≤ depth_limit
 
--- then the text with the new node in place of the old one is read without errors, as the old tree with the new node in place of the old one
+-- with such an edit, the text with the new node in place of the old one is read without errors, as the old tree with the new node in place of the old one
 abbrev pub IsReparsed : List ℕ → List ℕ → List ℕ → List ℕ → Type 0
 IsReparsed before old after new =
     (place : Context) (kind remaining right : SyntaxKind) (opening closing : List ℕ) (inside edited : Forest)

@@ -61,11 +61,11 @@ IsGap true normal token gap rest = gap ≡ []
 IsGap false normal token gap rest =
     (list_all is_blank gap ≡ true) × (((gap ≡ []) × NeedsNoGap normal token rest) ⊎ (ends_token token (slice_index gap 0) ≡ true))
 
--- normal rules apply, whatever the next text is
+-- normal rules apply before and after a token, whatever text comes next
 abbrev pub is_normal : List Mode → List Mode → Bool
 is_normal before after = not (is_inside (top before)) && not (is_inside (top after))
 
--- the second text is made of the tokens of the first one, without its white space and with gaps after them; known are the modes that are open before
+-- the second text is made of the tokens of the first one, without its white space and with gaps after them; the modes are those that are open before it
 pub data AreSeparated : List Mode → List ℕ → List ℕ → Type 0 where
   none : (modes : List Mode) → AreSeparated modes [] []
   space : (modes : List Mode) (text : List ℕ) (n : ℕ) (new : List ℕ) → 0 < length text
@@ -79,7 +79,7 @@ pub data AreSeparated : List Mode → List ℕ → List ℕ → Type 0 where
       → AreSeparated (changed cut.change (without_ended_paths modes text)) (drop cut.len text) rest
       → AreSeparated modes text (take cut.len text ++ (gap ++ rest))
 
--- and with any white space before the first token
+-- the same, with any white space before the first token
 pub record IsSeparated (text new : List ℕ) : Type 0 where
   pub gap : List ℕ
   pub rest : List ℕ

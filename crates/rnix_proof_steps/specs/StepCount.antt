@@ -35,12 +35,12 @@ abbrev pub AreNeeded : (trivia : Bool) (from to : Machine) → Runs trivia from 
 AreNeeded trivia from to here = Unit {0}
 AreNeeded trivia from to (further runs) = (is_finished trivia from ≡ false) × AreNeeded trivia (step trivia from) to runs
 
--- a machine comes to another in so many steps, and each is needed
+-- a machine reaches another in so many steps, each of which is needed
 pub record ComesIn (steps : ℕ) (from to : Machine) : Type 0 where
   pub runs : Runs true from to
   pub needed : AreNeeded true from to runs
   pub count : steps ≡ steps_in runs
 
--- the machine reads these tokens to the end, as this tree with these errors, and so is the number of its steps
+-- the machine reads these tokens to the end, as this tree with these errors, and P holds of the number of its steps
 abbrev pub IsReadIn : (ℕ → Type 0) → List Lexeme → Tree → List Fault → Type 0
 IsReadIn P lexemes tree faults = (read : IsRead lexemes tree faults) × P (steps_in read.runs)

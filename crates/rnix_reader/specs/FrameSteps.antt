@@ -94,14 +94,14 @@ pattern_lambda_begun over d s = node_begun NODE_PATTERN (InRow PATTERN) d (lambd
 abbrev pub begins_with : ℕ → Token → List Token → OperandStart
 begins_with level t us = operand_start_of level t.kind t.text (head_kind us) (second_kind us)
 
--- how an operand begins with this item depends on the second
+-- how an operand begins with this item depends on the second item
 abbrev pub looks_behind : SyntaxKind → Bool
 looks_behind TOKEN_IDENT = true
 looks_behind TOKEN_L_BRACE = true
 looks_behind TOKEN_LET = true
 looks_behind kind = false
 
--- the token `{`, with which it depends on the third too
+-- the token `{`: how an operand begins with it depends on the third item too
 abbrev pub is_brace : SyntaxKind → Bool
 is_brace TOKEN_L_BRACE = true
 is_brace kind = false

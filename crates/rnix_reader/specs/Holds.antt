@@ -131,7 +131,7 @@ abbrev pub positions_on : List Mark → List Position
 positions_on [] = []
 positions_on (m ∷ ms) = positions_on ms ++ m.position ∷ []
 
--- the sum of their measures
+-- the sum of the measures of these positions
 abbrev pub measures : List Position → ℕ
 measures [] = 0
 measures (x ∷ xs) = measure x + measures xs

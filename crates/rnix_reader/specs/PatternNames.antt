@@ -50,7 +50,7 @@ entry_at t = (t.text, record { start = t.start; end = t.end })
 abbrev pub EntryNamed : Token → Names → Names → Type 0
 EntryNamed t n n' = EntryOpened (entry_at t) n n'
 
--- it is complete: the pattern has one more name
+-- an entry is complete: the pattern has one more name
 pub record Entered (text : List ℕ) (below : List NameSet) (s : NameSet) (n' : Names) : Type 0 where
   pub set : NameSet
   pub has : (other : List ℕ) → has_name other set ≡ has_with other text s

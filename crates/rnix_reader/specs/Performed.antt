@@ -38,7 +38,7 @@ abbrev pub operand_with : ℕ → ℕ → Option Token → List Token → State 
 operand_with level d None us s = failed ended_fault s
 operand_with level d (Some t) us s = begun_as (begins_with level t us) level d t s
 
--- so it is with the items that are left
+-- the same for the items that are left
 abbrev pub operand_read : ℕ → ℕ → State → State
 operand_read level d s = operand_with level d (head_of (items_remaining s)) (tail_of (items_remaining s)) s
 
@@ -143,7 +143,7 @@ abbrev pub opens_on : ℕ → List Token → Bool
 opens_on level [] = false
 opens_on level (t ∷ us) = opens_pattern (begins_with level t us)
 
--- an operand, counted by the limit or not, may begin with it inside so many counted positions
+-- an operand that begins with a pattern comes next, and the nesting limit allows it
 abbrev pub opens_in : ℕ → Bool → ℕ → State → Bool
 opens_in depth counted level s = if counted && nat_le depth_limit depth then false else opens_on level (items_remaining s)
 

@@ -19,11 +19,11 @@ next_run until s = run_of until (items_remaining s)
 abbrev pub error_over : ExpectedSet → State → State
 error_over until s = ended (skipped (next_run until (started NODE_ERROR s)) (started NODE_ERROR s))
 
--- its error, where others are wanted
+-- an error node over the items that come next, up to one that stops a run, and its error
 abbrev pub unwanted_reported : ExpectedSet → State → State
 unwanted_reported until s = failed (report (Unwanted until) (next_run until s)) (error_over until s)
 
--- so it is with all that is left after the root's expression
+-- an error node over all that is left after the root's expression, and its error
 abbrev pub extra_reported : State → State
 extra_reported s = failed (report Extra (next_run End s)) (error_over End s)
 

@@ -46,7 +46,7 @@ fn len_with(green: &GreenNode, number: usize, replacement: &str) -> usize
     (element.end - element.start).saturating_add(replacement.len())
 }
 
-// Returns the tree after an edit of a text without errors, if parsing one of the nodes around the range alone gives it. The smallest is tried first.
+// Returns the tree after an edit of a text without errors, if parsing one of the nodes around the range alone is enough. The smallest is tried first.
 fn reparse_node(
     alloc: Global,
     green: &GreenNode,

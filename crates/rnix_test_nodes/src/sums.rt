@@ -119,7 +119,7 @@ impl<'t> Sum<'t> for Entry<'t> {
     }
 }
 
-// Adds the name of the variant that a node is cast to, if there is one. What was cast gives the node back.
+// Adds the name of the variant that a node is cast to, if there is one. The cast value returns the same node.
 fn add<'t, T: Sum<'t>>(said: &mut String, node: &SyntaxNode<'t>) -> Result<(), AllocError> {
     let Some(cast) = T::cast(node.clone()) else {
         return Ok(());

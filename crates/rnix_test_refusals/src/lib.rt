@@ -1,4 +1,4 @@
-//! Tests of refused memory. Each answers the refusal that it met, if there was one, and fails otherwise only where something is wrong;
+//! Tests of refused memory. Each returns the refusal that it met, if there was one, and otherwise fails only if a result is wrong;
 //! `bench/refuse` refuses each growth of each test in turn.
 #![tactic(auto)]
 

@@ -69,7 +69,7 @@ fn parts_of_a_path_are_asked_for_again(rt: HostRuntime) -> Result<(), AllocError
     report_refusal(refused)
 }
 
-// Whether a text stands for the wanted one; None where that is refused.
+// Whether a text, unescaped, is the wanted one; None if memory is refused.
 fn stands_for(alloc: Global, text: &str, multiline: bool, wanted: &str) -> Option<bool> {
     let value = unescape(alloc, text, multiline).ok()?;
     Some(value.as_str() == wanted)

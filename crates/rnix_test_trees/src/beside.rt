@@ -14,7 +14,7 @@ fn are_counted(two: &SyntaxNode<'_>) -> bool {
         && two.siblings_with_tokens(Direction::Prev).count() == 4
 }
 
-// Whether what is found of a kind beside the node is what stands beside the `2`.
+// Whether the siblings of a kind that are found next to the `2` are the right ones.
 fn are_of_kind(two: &SyntaxNode<'_>) -> bool {
     let close = two.next_sibling_or_token_by_kind(SyntaxKind::TOKEN_R_BRACK);
     is_node(two.next_sibling_by_kind(SyntaxKind::NODE_LITERAL), "3")

@@ -7,7 +7,7 @@ use std::collections::HashMap;
 use std::ops::Range;
 use std::test::Fail;
 
-// A name and where it stands.
+// A name and its range.
 #[derive(Clone, Copy)]
 struct Name<'t> {
     text: &'t str,

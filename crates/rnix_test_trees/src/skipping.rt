@@ -44,7 +44,7 @@ fn remaining(walk: PreorderWithTokens<'_>) -> usize {
     remaining
 }
 
-// Two walks after they enter the roots: what comes of passing the siblings that end before two offsets, and how many events are left in each.
+// Two walks after they enter the roots: what passing the siblings that end before two offsets returns, and how many events are left in each.
 fn passed(
     first: &SyntaxNode<'_>,
     before: usize,
@@ -86,7 +86,7 @@ fn what_two_walks_have_otherwise_is_not_passed(rt: HostRuntime) -> Result<(), Fa
     Ok(())
 }
 
-// Two walks after they enter the lists in two roots, the second one of a longer text: what comes of passing the siblings before two offsets, and how
+// Two walks after they enter the lists in two roots, the second one of a longer text: what passing the siblings before two offsets returns, and how
 // many events the first one has passed and the second one has left.
 fn passed_in_lists(
     rt: &HostRuntime,

@@ -71,7 +71,7 @@ fn tokens_stand_at_offsets(rt: HostRuntime) -> Result<(), Fail> {
     Ok(())
 }
 
-// Whether what stands beside the `1` is found.
+// Whether what is next to the `1` is found.
 fn stands_beside_one(root: &SyntaxNode<'_>) -> Option<bool> {
     let one = root.first_child()?.first_child()?;
     Some(
@@ -83,7 +83,7 @@ fn stands_beside_one(root: &SyntaxNode<'_>) -> Option<bool> {
     )
 }
 
-// Whether what stands beside the `3` is found.
+// Whether what is next to the `3` is found.
 fn stands_beside_three(root: &SyntaxNode<'_>) -> Option<bool> {
     let three = root.first_child()?.last_child()?.last_child()?;
     Some(
@@ -107,7 +107,7 @@ fn siblings_of_literals(rt: HostRuntime) -> Result<(), Fail> {
     Ok(())
 }
 
-// Whether the children at both ends of the product are found, and the one token at its start that lies in it.
+// Whether the children at both ends of the product are found, and the one token at its start that is inside it.
 fn has_both_ends(root: &SyntaxNode<'_>) -> Option<bool> {
     let product = root.first_child()?.last_child()?;
     Some(

@@ -1,11 +1,11 @@
--- Marks: the offsets after bytes that move the column otherwise than the offset.
+-- Marks: the offsets after bytes that do not add exactly one to the column.
 use Rattle.std.specs.Prelude.{ℕ, ◌+◌, ◌-◌, ◌==◌, ◌&&◌, ◌||◌, not, nat_lt, nat_le, Bool, List, [], ◌∷◌, if◌then◌else◌}
 use Rattle.rnix_text.specs.declared.line_column.ColumnUnit.{ColumnUnit}
 use Rattle.rnix_text.specs.declared.line_column.Position.{Position}
 use Rattle.rnix_text.specs.declared.line_column.Mark.{Mark}
 use Rattle.rnix_text.specs.Positions.{newline, weight, origin, step}
 
--- the byte moves the column as far as the offset
+-- the byte adds one to the column, as it does to the offset
 abbrev pub is_plain : ColumnUnit → ℕ → Bool
 is_plain unit b = not (b == newline) && (weight unit b == 1)
 
@@ -28,7 +28,7 @@ marks_after unit m (b ∷ bs) =
 abbrev pub marks_of : ColumnUnit → List ℕ → List Mark
 marks_of unit text = first_mark ∷ marks_after unit first_mark text
 
--- the position of an offset after a mark, over bytes that move the column as far
+-- the position of an offset after a mark, if each byte between them adds one to the column
 abbrev pub position_after : Mark → ℕ → Position
 position_after m offset = record { line = m.position.line; column = m.position.column + (offset - m.offset) }
 

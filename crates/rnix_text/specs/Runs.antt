@@ -26,7 +26,7 @@ end_of n (e ∷ es) = end_of e.end es
 abbrev pub ends_by : ℕ → Edit → Bool
 ends_by offset e = nat_le e.end offset
 
--- and so does the last edit of a run
+-- the same for the last edit of a run
 abbrev pub run_ends_by : ℕ → Vec Edit Global → Bool
 run_ends_by offset run = nat_le (end_of 0 run.items) offset
 

@@ -14,7 +14,7 @@ abbrev pub holder_of : ℕ → ℕ → Option ℕ → ℕ
 holder_of root m None = m
 holder_of root m (Some p) = if m == root then m else p
 
--- the siblings from an element on, up to the end of what the holder has inside
+-- the siblings from an element on, up to the end of the holder
 abbrev pub siblings_held : Tree → ℕ → ℕ → SiblingRange
 siblings_held t m holder = record { first = m; holder = holder; end = holder + 1 + (item t holder).below }
 
@@ -30,7 +30,7 @@ pub record IsSiblingRange (t : Tree) (siblings : SiblingRange) : Type 0 where
   pub is : siblings ≡ siblings_at t root siblings.first
   pub fits : siblings.end < 2 ^ 63
 
--- a number is reached from another one over siblings that end before an offset
+-- a number is reached from the first one by passing siblings that end before an offset
 pub data IsReached (t : Tree) (end offset first : ℕ) : ℕ → Type 0 where
   from_first : IsReached t end offset first first
   over_one : (n : ℕ) → IsReached t end offset first n → n < end → (item t n).end < offset → IsReached t end offset first (n + 1 + (item t n).below)
@@ -56,7 +56,7 @@ alike_at t u x s y v i =
 abbrev pub AreAlike : Tree → Tree → ℕ → ℕ → ℕ → ℕ → ℕ → Type 0
 AreAlike t u x s y v n = (i : ℕ) → i < n → alike_at t u x s y v i ≡ true
 
--- a range is one of the text
+-- a range is in the text
 pub record IsIn (t : Tree) (start end : ℕ) : Type 0 where
   pub ordered : start ≤ end
   pub within : end ≤ length (text_of (forest_of t))

@@ -6,17 +6,17 @@ use Rattle.rnix_green.specs.Relatives.{IsNodeIn, IsTokenIn, IsSiblingNode, IsFir
 use Rattle.rnix_tree.specs.declared.element.NodeOrToken.{NodeOrToken}
 use Rattle.rnix_tree.specs.declared.element.NodeOrToken.TheVariants.{Node, Token}
 
--- the number is one of the tree's, if there is one
+-- the number, if there is one, is that of an element of the tree
 abbrev pub IsThereIfAny : Tree → Option ℕ → Type 0
 IsThereIfAny t None = Unit {0}
 IsThereIfAny t (Some n) = n < length (items_of t)
 
--- it is that of a node, if there is one
+-- the number, if there is one, is that of a node
 abbrev pub IsNodeIfAny : Tree → Option ℕ → Type 0
 IsNodeIfAny t None = Unit {0}
 IsNodeIfAny t (Some n) = IsNodeIn t n
 
--- it is that of a token, if there is one
+-- the number, if there is one, is that of a token
 abbrev pub IsTokenIfAny : Tree → Option ℕ → Type 0
 IsTokenIfAny t None = Unit {0}
 IsTokenIfAny t (Some n) = IsTokenIn t n
@@ -30,7 +30,7 @@ ancestors_if t (Some n) = ancestors_of record { tree = t; number = n }
 abbrev pub parent_ancestors_of : Located → List Located
 parent_ancestors_of e = ancestors_if e.tree (item_of e).parent
 
--- the same, after the element where it is a node
+-- the nodes around an element, after the element itself if it is a node
 abbrev pub nodes_around : NodeOrToken Located Located → List Located
 nodes_around (Node e) = ancestors_of e
 nodes_around (Token e) = parent_ancestors_of e
@@ -45,7 +45,7 @@ abbrev pub IsLastTokenOf : NodeOrToken Located Located → Option Located → Ty
 IsLastTokenOf (Node e) r = IsLastToken e r
 IsLastTokenOf (Token e) r = r ≡ Some e
 
--- a child of the element p in which the element m lies
+-- a child of the element p that is the element m or contains it
 pub record IsOnWayTo (t : Tree) (p m child : ℕ) : Type 0 where
   pub parent : (item t child).parent ≡ Some p
   pub above : p < child

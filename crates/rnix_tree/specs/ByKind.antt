@@ -9,6 +9,6 @@ use Rattle.rnix_green.specs.Walk.{Spot}
 abbrev pub is_of_kind : SyntaxKind → Located → Bool
 is_of_kind kind e = same_kind kind (item_of e).kind
 
--- the same of an element of a walk
+-- the same for an element of a walk
 abbrev pub is_spot_of_kind : SyntaxKind → Spot → Bool
 is_spot_of_kind kind spot = is_of_kind kind spot.1

@@ -12,16 +12,16 @@ behind_count e = length (items_of e.tree) - suc e.number
 abbrev pub before_count : Located → ℕ
 before_count e = e.number
 
--- an element, if there is one, and all that come after it
+-- how many elements an element, if there is one, and all that come after it are
 abbrev pub behind_if : Option Located → ℕ
 behind_if None = 0
 behind_if (Some e) = suc (behind_count e)
 
--- an element, if there is one, and all that come before it
+-- how many elements an element, if there is one, and all that come before it are
 abbrev pub before_if : Option Located → ℕ
 before_if None = 0
 before_if (Some e) = suc (before_count e)
 
--- the number of a node or token, if there is one
+-- the position in the tree of a node or token, if there is one
 abbrev pub place_if : Option (NodeOrToken Located Located) → Option Located
 place_if element = option_map located_of element

@@ -46,7 +46,7 @@ IsNextWithin t root (Enter m) = IsInside t root m
 IsNextWithin t root (Leave m) = IsInside t root m
 IsNextWithin t root Done = Unit {0}
 
--- a walk from a root that is there is inside it
+-- the root is an element of the tree, and what is done next is inside the root
 pub record IsWithin (t : Tree) (root : ℕ) (next : Next) : Type 0 where
   pub root_there : root < length (items_of t)
   pub next_inside : IsNextWithin t root next
@@ -55,7 +55,7 @@ pub record IsWithin (t : Tree) (root : ℕ) (next : Next) : Type 0 where
 abbrev pub after_enter : Tree → ℕ → Next
 after_enter t m = if nat_lt 0 (item t m).below then Enter (m + 1) else Leave m
 
--- the same after it is left: the element after it, or else its parent
+-- the next thing to do after an element is left: to enter the element after it, or else to leave its parent
 abbrev pub behind : Tree → ℕ → ℕ → Option ℕ → Next
 behind t root m None = Done
 behind t root m (Some p) =
@@ -66,7 +66,7 @@ behind t root m (Some p) =
 abbrev pub after_leave : Tree → ℕ → ℕ → Next
 after_leave t root m = behind t root m (item t m).parent
 
--- the element around the element m is left next, where it is in the walk
+-- the parent of the element m is left next, if it is in the walk
 abbrev pub around : ℕ → ℕ → Option ℕ → Next
 around root m None = Done
 around root m (Some p) = if m == root then Done else Leave p

@@ -7,17 +7,17 @@ use Rattle.rnix_green.specs.Walk.{Spot}
 abbrev pub inside_count : Located → ℕ
 inside_count e = (item_of e).below
 
--- how many elements some nodes are with what is inside them
+-- how many elements some nodes and all that is inside them are
 abbrev pub nodes_count : List Located → ℕ
 nodes_count [] = 0
 nodes_count (e ∷ es) = suc (inside_count e) + nodes_count es
 
--- the same of the elements of a walk
+-- the same for the elements of a walk
 abbrev pub spots_count : List Spot → ℕ
 spots_count [] = 0
 spots_count (s ∷ ss) = suc (inside_count s.1) + spots_count ss
 
--- the same of one, if there is one
+-- the same for one element, if there is one
 abbrev pub count_if : Option Located → ℕ
 count_if None = 0
 count_if (Some e) = suc (inside_count e)

@@ -17,7 +17,7 @@ element_text kind range = name_of kind ++ codes "@" ++ extent_text range
 abbrev pub shown : List ℕ → List ℕ
 shown text = if nat_lt (length text) 25 then text else take 21 text ++ codes " ..."
 
--- a token's kind, its range, and its text in quotes; nothing is said of one of which more than ASCII is shown
+-- a token's kind, its range, and its text in quotes; left open if the text as it is shown is not all ASCII
 abbrev pub token_text : Located → Option (List ℕ)
 token_text e = Some (element_text (item_of e).kind (extent_of e)) ++? Some (codes " ") ++? debug_str (shown (text_at e))
 

@@ -1,4 +1,4 @@
--- What a pointer keeps of a node, and the node that it finds in a tree.
+-- What a pointer stores of a node, and the node that it finds in a tree.
 use Rattle.std.specs.Prelude.{◌≡◌, ◌<◌, ◌==◌, ◌&&◌, ℕ, Bool, true, length, Option, Some, SomeIff}
 use Rattle.rnix_kinds.specs.declared.kinds.SyntaxKind.{SyntaxKind}
 use Rattle.rnix_green.specs.Equality.{same_kind}
@@ -16,7 +16,7 @@ pub record Address : Type 0 where
 abbrev pub address_of : Located → Address
 address_of e = record { number = e.number; kind = (item_of e).kind; extent = extent_of e }
 
--- the address that a pointer keeps
+-- the address that a pointer stores
 abbrev pub address_in : SyntaxNodePtr → Address
 address_in p = record { number = p.number; kind = p.kind; extent = bounds_of p.range }
 

@@ -20,7 +20,7 @@ same_forest (leaf k t f) (leaf l u g) = same_kind k l && (bytes_eq t u && same_f
 same_forest (node k c f) (node l d g) = same_kind k l && (same_forest c d && same_forest f g)
 same_forest f g = false
 
--- two elements have one number in equal trees
+-- two elements have the same number in equal trees
 abbrev pub same_located : Located → Located → Bool
 same_located a b = a.number == b.number && (same_kind a.tree.kind b.tree.kind && same_forest a.tree.children b.tree.children)
 

@@ -12,7 +12,7 @@ same_parent None None = true
 same_parent (Some p) (Some q) = p == q
 same_parent p q = false
 
--- whether the element of a number has the parent of e
+-- whether the element with a number has the same parent as e
 abbrev pub is_beside : Located → ℕ → Bool
 is_beside e m = same_parent (item e.tree m).parent (item_of e).parent
 
@@ -21,7 +21,7 @@ abbrev pub numbers_below : ℕ → List ℕ
 numbers_below zero = []
 numbers_below (suc k) = k ∷ numbers_below k
 
--- of an element and all after it, or before it, those with its parent, the nearest first
+-- an element and its siblings after it, or before it, the nearest first
 abbrev pub siblings_of : Direction → Located → List Spot
 siblings_of Next e = map (spot_at e.tree) (filter (is_beside e) (counted e.number (length (items_of e.tree) - e.number)))
 siblings_of Prev e = map (spot_at e.tree) (filter (is_beside e) (numbers_below (suc e.number)))

@@ -27,7 +27,7 @@ abbrev pub located_of : NodeOrToken Located Located → Located
 located_of (Node e) = e
 located_of (Token e) = e
 
--- the event that a walk gives
+-- the event that a walk yields
 abbrev pub event_of : WalkEvent (NodeOrToken Located Located) → Event
 event_of (Enter e) = (true, spot_of e)
 event_of (Leave e) = (false, spot_of e)
@@ -37,14 +37,14 @@ abbrev pub element_in : {T : Type 0} → WalkEvent T → T
 element_in (Enter e) = e
 element_in (Leave e) = e
 
--- an event of what may be made of another's element
+-- both events enter or both leave, and the relation holds of their elements
 abbrev pub MapsEvent : {T U : Type 0} → (T → U → Type 0) → WalkEvent T → WalkEvent U → Type 0
 MapsEvent makes (Enter a) (Enter b) = makes a b
 MapsEvent makes (Leave a) (Leave b) = makes a b
 MapsEvent makes (Enter a) (Leave b) = ⊥
 MapsEvent makes (Leave a) (Enter b) = ⊥
 
--- the event that a walk over nodes gives
+-- the event that a walk over nodes yields
 abbrev pub node_event_of : WalkEvent Located → NodeEvent
 node_event_of (Enter e) = (true, e)
 node_event_of (Leave e) = (false, e)

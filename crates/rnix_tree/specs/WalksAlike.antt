@@ -12,7 +12,7 @@ pub record Shown : Type 0 where
   pub kind : SyntaxKind
   pub text : List ℕ
 
--- so for an element of which all this is known
+-- what an event shows of an element that is known by these
 abbrev pub shown_event : Bool → Bool → SyntaxKind → List ℕ → Shown
 shown_event enters is_node kind text = record { enters = enters; is_node = is_node; kind = kind; text = if is_node then [] else text }
 
@@ -55,7 +55,7 @@ pub record HavePassed (offset other_offset : ℕ) (a b a_remaining b_remaining :
   pub other_before : All (EndsBefore other_offset) twins
   pub done : siblings_before offset 0 a_remaining ≡ []
 
--- what comes of comparing the siblings that a walk enters next and that end before an offset with the next ones of another walk: there are none, or they
+-- the siblings that a walk enters next and that end before an offset are compared with the next ones of another walk: there are none; or they
 -- differ, and both walks stay where they are; or they are alike, and both walks have passed them
 abbrev pub PassesAlike : ℕ → ℕ → Option Bool → List Event → List Event → List Event → List Event → Type 0
 PassesAlike offset other_offset None a b a_remaining b_remaining = (siblings_before offset 0 a ≡ []) × (a_remaining ≡ a) × (b_remaining ≡ b)

@@ -1,4 +1,4 @@
--- What was looked over ahead.
+-- What a lookahead has found.
 use Rattle.std.specs.Prelude.{◌≡◌, ℕ, ◌<◌, ◌-◌, List, length}
 use Rattle.std.specs.List.{prefix_len}
 use Rattle.rnix_kinds.specs.declared.tokenizer.ahead.Ahead.{Ahead}
@@ -6,7 +6,7 @@ use Rattle.rnix_kinds.specs.declared.tokenizer.text.Class.{Class}
 use Rattle.rnix_kinds.specs.declared.tokenizer.text.Class.TheVariants.{Step, Scheme, Angle}
 use Rattle.rnix_kinds.specs.Lexical.Classes.{class_test}
 
--- the run at the front ends where `left` bytes of the text are left, unless that is no place inside it
+-- the run at the front ends where so many bytes of the text remain, if these are fewer than the whole text
 abbrev pub IsRunEnd : Class → ℕ → List ℕ → Type 0
 IsRunEnd class remaining text = remaining < length text → length text - remaining ≡ prefix_len (class_test class) text
 

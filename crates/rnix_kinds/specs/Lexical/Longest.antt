@@ -1,4 +1,4 @@
--- What the words on lengths mean: a longest run, a longest sequence of pieces, a first pair, the longest operator; and where a scheme ends.
+-- What the definitions of lengths mean: a longest run, a longest sequence of pieces, a first pair, the longest operator; and where a scheme ends.
 use Rattle.std.specs.Prelude.{◌≡◌, ◌==◌, ◌⊎◌, ℕ, ◌+◌, ◌<◌, ◌≤◌, Bool, true, not, List, [], ◌∷◌, take, drop, length, slice_index}
 use Rattle.std.specs.List.{list_all, prefix_len}
 use Rattle.rnix_kinds.specs.declared.kinds.SyntaxKind.{SyntaxKind}
@@ -7,12 +7,12 @@ use Rattle.rnix_kinds.specs.Lexical.Classes.{class_test}
 use Rattle.rnix_kinds.specs.Lexical.Texts.{begins}
 use Rattle.rnix_kinds.specs.Lexical.Strings.{piece_len}
 
--- the largest number of this kind
+-- n is a member, and no larger number is
 pub record IsLongest (Member : ℕ → Type 0) (n : ℕ) : Type 0 where
   pub member : Member n
   pub longest : (m : ℕ) → Member m → m ≤ n
 
--- the first n bytes are there and passed the test
+-- the text has n bytes or more, and the first n pass the test
 abbrev pub IsRun : (ℕ → Bool) → List ℕ → ℕ → Type 0
 IsRun test text n = (n ≤ length text) × (list_all test (take n text) ≡ true)
 
@@ -26,11 +26,11 @@ pub data IsRow (multiline : Bool) : ℕ → List ℕ → Type 0 where
 abbrev pub IsLongestContent : Bool → List ℕ → ℕ → Type 0
 IsLongestContent multiline text n = n < length text → IsLongest (λ m. IsRow multiline m text) n
 
--- a then b are at the index k
+-- the bytes at the indices k and k + 1 are a and b
 abbrev pub IsPair : ℕ → ℕ → List ℕ → ℕ → Type 0
 IsPair a b text k = (k + 1 < length text) × (slice_index text k ≡ a) × (slice_index text (k + 1) ≡ b)
 
--- n is the first place of the pair, or the length where there is none
+-- n is the first index of the pair, or the length of the text if there is none
 pub record IsFirstPair (a b : ℕ) (text : List ℕ) (n : ℕ) : Type 0 where
   pub within : n ≤ length text
   pub found : n < length text → IsPair a b text n
@@ -41,7 +41,7 @@ abbrev pub FitsRow : List (List ℕ × SyntaxKind) → List ℕ → ℕ → Type
 FitsRow [] text n = ⊥
 FitsRow (row ∷ rows) text n = ((begins row.0 text ≡ true) × (length row.0 ≡ n)) ⊎ FitsRow rows text n
 
--- the path characters but `/` at the front hold no `_`, and `:` follows them
+-- the path characters other than `/` that begin the text contain no `_`, and `:` follows them
 abbrev pub IsScheme : List ℕ → Type 0
 IsScheme text =
     (list_all (λ b. not (b == 95)) (take (prefix_len (class_test Step) text) text) ≡ true)

@@ -11,7 +11,7 @@ abbrev pub exponent_digits : ℕ → List ℕ → Cut
 exponent_digits i text =
     let end = run_end is_ascii_digit i text in plain (if end == i then TOKEN_ERROR else TOKEN_FLOAT) end
 
--- a float whose digits end at the place i: an `e` or `E` there, a sign, and digits
+-- a float whose digits end at the index i: an `e` or `E` there, a sign, and digits
 abbrev pub exponent : ℕ → List ℕ → Cut
 exponent i text =
     if slice_index text i == 101 || slice_index text i == 69
@@ -19,7 +19,7 @@ exponent i text =
     else exponent_digits (i + 1) text)
     else plain TOKEN_FLOAT i
 
--- digits from the place after the point on
+-- digits from the index after the point on
 abbrev pub fraction : ℕ → List ℕ → Cut
 fraction i text = exponent (run_end is_ascii_digit i text) text
 

@@ -14,11 +14,11 @@ use Rattle.rnix_kinds.specs.Lexical.Plain.{plain}
 use Rattle.rnix_kinds.specs.declared.tokenizer.text.Class.TheVariants.{Step, Angle}
 use Rattle.rnix_kinds.specs.Lexical.Classes.{class_test, is_path}
 
--- a segment that ends with `/` or holds `//`
+-- a segment that ends with `/` or contains `//`
 abbrev pub is_broken : List ℕ → Bool
 is_broken segment = slice_index segment (length segment - 1) == 47 || nat_lt (before_pair 47 47 segment) (length segment)
 
--- the path characters from a place on, and what is before it; going: what it does to the modes before `${`, ended: elsewhere
+-- the part of a path that ends at an index; `going` is how it changes the modes if `${` follows, `ended` how it changes them otherwise
 abbrev pub segment_to : PathStart → Change → Change → ℕ → List ℕ → Cut
 segment_to start going ended end text =
     if occurs_at (codes "${") end text then record { kind = kind_of_path start; len = end; change = going }

@@ -1,4 +1,4 @@
--- White space, comments and words, and what a rule gives.
+-- White space, comments and words, and a token that leaves the modes as they are.
 use Rattle.std.specs.Prelude.{ℕ, Bool, ◌+◌, ◌&&◌, ◌||◌, ◌==◌, if◌then◌else◌, nat_lt, List, take, drop, length, slice_index, codes, Option, Some, None}
 use Rattle.std.specs.List.{prefix_len}
 use Rattle.std.specs.Char.{is_ascii_alphabetic}
@@ -11,7 +11,7 @@ use Rattle.rnix_kinds.specs.Lexical.Texts.{begins, run_end, before_pair, space_l
 use Rattle.rnix_kinds.specs.declared.tokenizer.text.Class.TheVariants.{Name, Scheme, Line}
 use Rattle.rnix_kinds.specs.Lexical.Classes.{class_test, is_uri}
 
--- a token that leaves the modes alone
+-- a token that leaves the modes as they are
 abbrev pub plain : SyntaxKind → ℕ → Cut
 plain kind n = record { kind = kind; len = n; change = Stay }
 

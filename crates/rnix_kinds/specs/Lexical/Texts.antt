@@ -1,4 +1,4 @@
--- Words on a text, which is a list of bytes.
+-- Definitions about a text, which is a list of bytes.
 use Rattle.std.specs.Prelude.{ℕ, suc, ◌+◌, Bool, true, cond, ◌&&◌, ◌||◌, ◌==◌, nat_lt, List, [], ◌∷◌, take, drop, length, slice_index}
 use Rattle.std.specs.List.{prefix_len, take_while, list_any}
 use Rattle.std.specs.Char.{is_whitespace, len_utf8}
@@ -14,7 +14,7 @@ occurs_at (b ∷ c ∷ bs) i text = slice_index text i == b && occurs_at (c ∷ 
 abbrev pub begins : List ℕ → List ℕ → Bool
 begins bytes = occurs_at bytes 0
 
--- where the longest run of bytes that passed the test ends, if it begins at the place i
+-- where the longest run of bytes that pass the test ends, if it begins at the index i
 abbrev pub run_end : (ℕ → Bool) → ℕ → List ℕ → ℕ
 run_end test i text = i + prefix_len test (drop i text)
 

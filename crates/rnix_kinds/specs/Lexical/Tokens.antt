@@ -99,7 +99,7 @@ abbrev pub CountsFit : ℕ → List Mode → Type 0
 CountsFit n [] = n < 2 ^ 64
 CountsFit n (mode ∷ modes) = (braces_of (Some mode) + n < 2 ^ 64) × CountsFit n modes
 
--- a path on top continues
+-- if the mode on top is a path, the path continues
 abbrev pub IsPathGoingOn : Option Mode → List ℕ → Type 0
 IsPathGoingOn (Some (Path kind)) text = path_goes_on text ≡ true
 IsPathGoingOn mode text = Unit {0}
@@ -117,7 +117,7 @@ opens_path TOKEN_PATH_HOME = true
 opens_path TOKEN_PATH_REL = true
 opens_path kind = false
 
--- what a kind says of the text: `or` is its own kind, and no rule gives a current position or the kind of a node
+-- which texts a token of a kind may have: only `or` has its own kind, and no rule returns TOKEN_CUR_POS or the kind of a node
 abbrev pub MayBe : SyntaxKind → List ℕ → Type 0
 MayBe TOKEN_CUR_POS word = ⊥
 MayBe TOKEN_OR word = word ≡ codes "or"
@@ -158,7 +158,7 @@ pub data AreTokens : List Mode → List ℕ → List Lexeme → Type 0 where
 abbrev pub text_of : Lexeme → List ℕ
 text_of token = token.1
 
--- what is ahead of the tokens of a text, whatever the rules are
+-- what holds of the tokens of a text, whatever the rules are
 pub record AreSound (text : List ℕ) (tokens : List Lexeme) : Type 0 where
   pub joined : flat_map text_of tokens ≡ text
   pub some : All (λ t. 0 < length t.1) tokens
@@ -175,7 +175,7 @@ abbrev pub OpensFirst : List Lexeme → Type 0
 OpensFirst [] = ⊥
 OpensFirst (token ∷ tokens) = (opens_alone token.0 ≡ true) ⊎ ((opens_path token.0 ≡ true) × InterpolatesFirst tokens)
 
--- the next of the tokens that are left; after a refusal it is left, and it opens a mode
+-- the next of the remaining tokens is returned and removed; after a refusal it remains, and it opens a mode
 abbrev pub GivesNext : List Lexeme → Option (Result (SyntaxKind × Bor (List ℕ)) AllocError) → List Lexeme → Type 0
 GivesNext before None after = (before ≡ []) × (after ≡ [])
 GivesNext before (Some (Ok token)) after = before ≡ (token.0, token.1.now) ∷ after
