@@ -27,6 +27,13 @@ pub mod AttributePutLemmas
 pub mod AttributeInsertLemmas
 pub mod AttributeGrowthLemmas
 pub mod BuiltLemmas
+pub mod GroupLemmas
+pub mod LinkLemmas
+pub mod PendingLemmas
+pub mod DistinctLemmas
+pub mod InOrderLemmas
+pub mod DepthLemmas
+pub mod PreorderExamples
 pub mod RepeatedNameLemmas
 pub mod JsonLocationLemmas
 pub mod JsonRepeatLemmas

@@ -16,6 +16,9 @@ pub mod Index
 pub mod Built
 pub mod FoundKeys
 pub mod Building
+pub mod Preorder
+pub mod Groups
+pub mod ValueDepths
 pub mod RepeatedNames
 pub mod Attached
 pub mod JsonLocations

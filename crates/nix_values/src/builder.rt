@@ -2,9 +2,11 @@
 
 ghost use Rattle.std.specs.Prelude.{◌≡◌, ℕ, ◌<◌, [], ◌∷◌, ◌++◌, length, map, false, IsTrue, IfOk, OnOk, OnErr, string_bytes};
 ghost use Rattle.std.proofs.Props.{props};
-ghost use Rattle.nix_values.specs.Contents.{Plain, plain_of};
+ghost use Rattle.nix_values.specs.Contents.{Plain, plain_of, contents};
 ghost use Rattle.nix_values.specs.Built.{built_of, is_set_at, attribute_of};
 ghost use Rattle.nix_values.specs.Index.{IsIndex, IsIndexWith};
+ghost use Rattle.nix_values.specs.Preorder.{preorder};
+ghost use Rattle.nix_values.specs.ValueDepths.{HaveDepths};
 
 use crate::attributes::Attributes;
 use crate::data::{Data, Value};
@@ -17,6 +19,7 @@ pub struct Builder {
     values: Nodes,
     attributes: Attributes,
     ghost index: { IsIndex (map built_of values.nodes.items) attributes } by { Prim.hlevel props },
+    ghost depths: { HaveDepths values.nodes.items } by { Prim.hlevel props },
 }
 
 // Makes the value that comes next the attribute of a set, if it is inside one.
@@ -89,10 +92,7 @@ impl Builder {
         ensures kept { OnErr result (values_in self.new ≡ values_in self.old) }
     {
         let node = self.values.nodes.len();
-        let depth = match parent.and_then(|number| self.values.nodes.get(number)) {
-            Some(around) => around.depth.saturating_add(1),
-            None => 0,
-        };
+        let depth = self.values.depth_inside(parent);
         self.values.nodes.reserve(1)?;
         attach(
             alloc,
@@ -106,15 +106,14 @@ impl Builder {
             depth,
             name,
             value,
-            size: 1,
-            number: 0,
-            next_number: 1,
         })?;
         Ok(node)
     }
 
-    /// Returns the data.
-    pub fn finish(self, alloc: Global) -> Result<Data, AllocError> {
+    /// Returns the data: each value is followed by those inside it, in the order in which they were added.
+    pub fn finish(self, alloc: Global) -> Result<Data, AllocError>
+        ensures { IfOk result (λ found. contents found ≡ preorder (values_in self)) }
+    {
         let Builder { values, .. } = self;
         Ok(Data {
             items: values.into_items(alloc)?,

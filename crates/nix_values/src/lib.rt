@@ -15,6 +15,7 @@ mod json_strings;
 mod json_tokens;
 mod json_writer;
 mod layout;
+mod links;
 mod nodes;
 mod notation;
 mod ordered;

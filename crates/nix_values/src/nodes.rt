@@ -1,11 +1,18 @@
 //! Values that are being read, with their parents, in the order in which they were found.
 
-ghost use Rattle.std.specs.Prelude.{◌≡◌, map};
+ghost use Rattle.std.specs.Prelude.{◌≡◌, ◌≤◌, ℕ, length, map, slice_get, slice_index, option_to_list, IsTrue, IfOk};
+ghost use Rattle.std.specs.List.{range_with_len};
+ghost use Rattle.nix_values.specs.Contents.{entry_of};
 ghost use Rattle.nix_values.specs.Built.{built_of, is_set_at, keys_of};
+ghost use Rattle.nix_values.specs.Preorder.{parent_before, preorder};
+ghost use Rattle.nix_values.specs.Groups.{groups_of, order_of, innermost, AreLinkedFrom, AreDistinct};
+ghost use Rattle.nix_values.specs.ValueDepths.{HaveDepths, depth_under, entry_in, entry_at, entries_at};
 
 use crate::attributes::Values;
 use crate::data::{Item, Value};
+use crate::links::{Links, push_some};
 use std::alloc::{AllocError, Global};
+use std::mem;
 
 /// A value, found before the values inside it.
 #[derive(Drop)]
@@ -18,12 +25,6 @@ pub struct Node {
     pub name: String,
     /// The value.
     pub value: Value,
-    /// How many values it is, with those inside it.
-    pub size: usize,
-    /// Its number in the data.
-    pub number: usize,
-    /// That of the next value inside it.
-    pub next_number: usize,
 }
 
 /// Values that are being read.
@@ -45,6 +46,16 @@ impl Values for Nodes {
     }
 }
 
+// Returns whether a group is that of the values inside the last of some values, or the outermost group if there are none.
+fn is_inside_last(group: usize, numbers: &[usize]) -> bool
+    ensures { IsTrue result → group ≡ innermost 0 numbers.now }
+{
+    match numbers.last() {
+        Some(number) => group > 0 && group - 1 == *number,
+        None => group == 0,
+    }
+}
+
 impl Nodes {
     /// Returns whether a value is a set.
     pub fn is_set(&self, node: usize) -> bool
@@ -56,47 +67,81 @@ impl Nodes {
         }
     }
 
-    // Counts the values inside each value.
-    fn count_inside(&mut self) {
-        for node in (0..self.nodes.len()).rev() {
-            let Some(found) = self.nodes.get(node) else {
-                continue;
-            };
-            let (size, parent) = (found.size, found.parent);
-            if let Some(around) = parent.and_then(|number| self.nodes.get_mut(number)) {
-                around.size = around.size.saturating_add(size);
-            }
+    /// Returns the depth of what is added to a value, or of what is added as an outermost value.
+    pub fn depth_inside(&self, parent: Option<usize>) -> usize
+        requires { HaveDepths self.now.nodes.items }
+        ensures depth { result ≡ depth_under self.now.nodes.items (parent_before (length self.now.nodes.items) parent) }
+        ensures within { result ≤ length self.now.nodes.items }
+    {
+        let Some(number) = parent else {
+            return 0;
+        };
+        match self.nodes.get(number) {
+            Some(around) => around.depth.saturating_add(1),
+            None => 0,
         }
     }
 
-    // Numbers the values: each is followed by those inside it. Returns whether they are in this order already.
-    fn number(&mut self) -> bool {
-        let mut is_in_order = true;
-        for node in 0..self.nodes.len() {
-            let Some(found) = self.nodes.get(node) else {
-                continue;
-            };
-            let (size, parent) = (found.size, found.parent);
-            let mut number = 0;
-            if let Some(around) = parent.and_then(|number| self.nodes.get_mut(number)) {
-                number = around.next_number;
-                around.next_number = number.saturating_add(size);
-            }
-            if let Some(found) = self.nodes.get_mut(node) {
-                found.number = number;
-                found.next_number = number.saturating_add(1);
-            }
-            is_in_order = is_in_order && number == node;
+    // Returns the group of a value: 0 if it is outermost, and one more than the number of its parent if not.
+    fn group(&self, number: usize) -> usize
+        ensures { result ≡ slice_index (groups_of (map built_of self.now.nodes.items)) number }
+    {
+        match self.nodes.get(number) {
+            Some(found) => match found.parent {
+                Some(parent) if parent < number => parent + 1,
+                _ => 0,
+            },
+            None => 0,
         }
-        is_in_order
     }
 
-    /// Returns the values in their order in the data.
-    pub fn into_items(mut self, alloc: Global) -> Result<Vec<Item>, AllocError> {
-        self.count_inside();
-        if !self.number() {
-            self.nodes.sort_by_key(|node| node.number)?;
+    // Returns whether the values were added in their order in the data: each one to the last value before it, or to one around that.
+    fn is_in_order(&self, alloc: Global) -> Result<bool, AllocError>
+        ensures { IfOk result (λ is. IsTrue is → order_of (groups_of (map built_of self.now.nodes.items)) ≡ range_with_len 0 (length self.now.nodes.items)) }
+    {
+        // The last value and those around it, the outermost one first.
+        let mut around = Vec::new(alloc);
+        for (number, node) in self.nodes.iter().enumerate() {
+            around.truncate(node.depth);
+            if !is_inside_last(self.group(number), around.as_slice()) {
+                return Ok(false);
+            }
+            around.push(number)?;
         }
+        Ok(true)
+    }
+
+    // Links the values. From the last to the first, each becomes the first of its group.
+    fn links(&self, alloc: Global) -> Result<Links, AllocError>
+        ensures { IfOk result (λ links. AreLinkedFrom 0 (groups_of (map built_of self.now.nodes.items)) links) }
+    {
+        let mut links = Links::new(alloc, self.nodes.len())?;
+        for number in (0..self.nodes.len()).rev() {
+            links.put_first(self.group(number), number);
+        }
+        Ok(links)
+    }
+
+    // Returns the numbers of the values in their order in the data: each is followed by those inside it.
+    fn order(&self, alloc: Global) -> Result<Vec<usize>, AllocError>
+        ensures { IfOk result (λ order. order.items ≡ order_of (groups_of (map built_of self.now.nodes.items))) }
+    {
+        let links = self.links(alloc)?;
+        let mut order = Vec::with_capacity(alloc, self.nodes.len())?;
+        let mut pending = Vec::new(alloc);
+        push_some(&mut pending, links.first_of(0))?;
+        while let Some(number) = pending.pop() {
+            order.push(number)?;
+            push_some(&mut pending, links.next_of(number))?;
+            push_some(&mut pending, links.first_of(number + 1))?;
+        }
+        Ok(order)
+    }
+
+    // Returns the values in the order in which they were added.
+    fn into_all(self, alloc: Global) -> Result<Vec<Item>, AllocError>
+        ensures { IfOk result (λ items. map entry_of items.items ≡ map entry_in self.nodes.items) }
+    {
         let mut items = Vec::with_capacity(alloc, self.nodes.len())?;
         for node in self.nodes {
             items.push(Item {
@@ -106,5 +151,47 @@ impl Nodes {
             })?;
         }
         Ok(items)
+    }
+
+    // Takes the value with a number out, if there is one.
+    fn take(&mut self, alloc: Global, number: usize) -> Option<Item>
+        ensures taken { map entry_of (option_to_list result) ≡ entry_at self.old.nodes.items number }
+        ensures others { (k : ℕ) → (number ≡ k → ⊥) → slice_get self.new.nodes.items k ≡ slice_get self.old.nodes.items k }
+    {
+        match self.nodes.get_mut(number) {
+            Some(node) => Some(Item {
+                depth: node.depth,
+                name: mem::replace(&mut node.name, String::new(alloc)),
+                value: mem::replace(&mut node.value, Value::Null),
+            }),
+            None => None,
+        }
+    }
+
+    // Returns the values with some numbers, none of which is there twice.
+    fn into_ordered(mut self, alloc: Global, order: &[usize]) -> Result<Vec<Item>, AllocError>
+        requires { AreDistinct order.now }
+        ensures { IfOk result (λ items. map entry_of items.items ≡ entries_at self.nodes.items order.now) }
+    {
+        let mut items = Vec::with_capacity(alloc, order.len())?;
+        for number in order {
+            if let Some(item) = self.take(alloc, *number) {
+                items.push(item)?;
+            }
+        }
+        Ok(items)
+    }
+
+    /// Returns the values in their order in the data.
+    pub fn into_items(self, alloc: Global) -> Result<Vec<Item>, AllocError>
+        requires { HaveDepths self.nodes.items }
+        ensures { IfOk result (λ items. map entry_of items.items ≡ preorder (map built_of self.nodes.items)) }
+    {
+        let is_in_order = self.is_in_order(alloc)?;
+        if is_in_order {
+            return self.into_all(alloc);
+        }
+        let order = self.order(alloc)?;
+        self.into_ordered(alloc, order.as_slice())
     }
 }
