@@ -1,6 +1,7 @@
-use Rattle.std.proofs.Common.{◌≡◌, ◌≤◌, [], length, false, map, string_bytes, ap, subst, sym, ◌∙◌}
-use Rattle.std.proofs.lemmas.Option.{slice_get_past}
-use Rattle.nix_update.{specs.PathSteps.definitions_in, proofs.{CollectedLists.none_at_all, UndefinedLemmas.undefined_updated}}
+use Rattle.std.proofs.Common.{rules, ◌≡◌, ◌≤◌, [], ◌∷◌, length, false, map, string_bytes, Some, ap, subst, sym, ◌∙◌}
+use Rattle.std.{proofs.lemmas.Option.{slice_get_past}, specs.Prelude.slice_get}
+use Rattle.nix_update.specs.PathSteps.{definitions_in}
+use Rattle.nix_update.proofs.{CollectedLists.{none_at_all, only_one}, UndefinedLemmas.undefined_updated, DefinedLemmas.defined_updated}
 use Rattle.nix_update.proofs.update.update_in.Goals as goal
 
 pub returns-in_default : goal.returns-in_default
@@ -13,3 +14,16 @@ returns-in_default c =
     ∙ none_at_all definitions (slice_get_past definitions 0 past) in
     undefined_updated c.args.update names c.args.path.now.text.now c.args.path.now.starts.items c.args.steps.now c.args.text.now c.args.root.now
     c.update_undefined.result none c.update_undefined.ensures
+
+pub returns : goal.returns
+returns c =
+    let definitions = c.in_ok-definitions.definitions.items in
+    let definition = c.in-Some.definition.now in
+    let names = map string_bytes c.args.path.now.names.items in
+    let first : slice_get definitions 0 ≡ Some definition = search rules in
+    let one : length definitions ≤ 1 = subst (λ xs. length xs ≤ 1) c.deref-3.ensures.value c.in-None.ensures.lookup.3 in
+    let only : definitions_in names false c.args.steps.now ≡ definition ∷ [] =
+    ap (λ names. definitions_in (map string_bytes names) false c.args.steps.now) (sym c.deref.ensures.value) ∙ sym c.in_ok-definitions.ensures
+    ∙ only_one definitions definition first (slice_get_past definitions 1 one) in
+    defined_updated c.args.update names c.args.path.now.text.now c.args.path.now.starts.items c.args.steps.now c.args.text.now c.args.root.now
+    definition c.in_ok-attempt-in-None.attempt c.outcome_of.result only c.outcome_of.ensures c.in_ok-attempt-in-None.ensures
