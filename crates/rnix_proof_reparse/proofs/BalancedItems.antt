@@ -5,8 +5,8 @@ use Rattle.std.specs.List.{list_all}
 use Rattle.std.proofs.lemmas.Bool.Decides.{nat_tests}
 use Rattle.std.proofs.lemmas.List.{map-append}
 use Rattle.rnix_kinds.specs.declared.kinds.SyntaxKind.{SyntaxKind}
-use Rattle.rnix_kinds.specs.declared.kinds.SyntaxKind.TheVariants.{NODE_ATTR_SET, NODE_CUR_POS, NODE_IDENT, NODE_LIST, NODE_PAREN, NODE_STRING}
-use Rattle.rnix_kinds.specs.declared.kinds.SyntaxKind.TheVariants.{TOKEN_CUR_POS, TOKEN_IDENT, TOKEN_OR}
+use Rattle.rnix_kinds.specs.declared.kinds.SyntaxKind.TheVariants.{NODE_ATTR_SET, NODE_CUR_POS, NODE_IDENT, NODE_LEGACY_LET, NODE_LIST, NODE_PAREN}
+use Rattle.rnix_kinds.specs.declared.kinds.SyntaxKind.TheVariants.{NODE_STRING, TOKEN_CUR_POS, TOKEN_IDENT, TOKEN_OR}
 use Rattle.rnix_kinds.proofs.AllKinds.{all_kinds, every}
 use Rattle.rnix_kinds.specs.Lexical.Tokens.{Lexeme}
 use Rattle.rnix_grammar.specs.declared.rules.Part.{Part}
@@ -161,6 +161,7 @@ balanced_row {q = q} {b = b} (inner {k = k} {s = s} {c = x} {f = f} {ds = ds} {e
 -- the rest of the row is inside the brackets of a node
 abbrev pub is_within : SyntaxKind → Row → Bool
 is_within NODE_ATTR_SET (Entries closer · r) = true
+is_within NODE_LEGACY_LET (Entries closer · r) = true
 is_within NODE_LIST (Many level closer · r) = true
 is_within NODE_PAREN (Operand level counted · r) = true
 is_within NODE_PAREN (Wanted k · r) = true
@@ -186,6 +187,7 @@ stays_within i q = if is_within i q then list_all (λ k. if is_viable (after q k
 
 kind_never : (i : SyntaxKind) → stays_within i never ≡ true
 kind_never NODE_ATTR_SET = refl
+kind_never NODE_LEGACY_LET = refl
 kind_never NODE_LIST = refl
 kind_never NODE_PAREN = refl
 kind_never NODE_STRING = refl

@@ -17,7 +17,7 @@ use Rattle.rnix_proof_rows.proofs.ReadsFilled.{AreFilled, rows_filled}
 use Rattle.rnix_proof_rows.proofs.AttachTriviaLemmas.{HasTree}
 use Rattle.rnix_proof_rows.proofs.WithTriviaEdges.{AreEdged, remapped_is_trivia}
 use Rattle.rnix_parser.specs.Significant.{leaf_unless, significant}
-use Rattle.rnix_proof_reparse.specs.Bracketed.{IsBracketed, set, list, paren, string}
+use Rattle.rnix_proof_reparse.specs.Bracketed.{IsBracketed, set, recursive_set, legacy_let, list, paren, string}
 use Rattle.rnix_proof_reparse.specs.LevelsAround.{between}
 use Rattle.rnix_proof_reparse.proofs.SwappedNodes.{Swapped, here, past_token, past_branch, past_fault, inside}
 use Rattle.rnix_proof_reparse.proofs.ReplacedReadings.{levels}
@@ -56,12 +56,16 @@ bare_levels p (inside {j = j} s) = ap (λ z. if nests p j then suc z else z) (ba
 -- brackets are no trivia, and their leaves have their own kinds
 pub bracket_kinds : {k l r : SyntaxKind} → IsBracketed k l r → (is_trivia l ≡ false) × (is_trivia r ≡ false)
 bracket_kinds set = (refl, refl)
+bracket_kinds recursive_set = (refl, refl)
+bracket_kinds legacy_let = (refl, refl)
 bracket_kinds list = (refl, refl)
 bracket_kinds paren = (refl, refl)
 bracket_kinds string = (refl, refl)
 
 pub kind_alone : {k l r : SyntaxKind} → IsBracketed k l r → (j : SyntaxKind) → leaf_kind_as k j ≡ j
 kind_alone set j = refl
+kind_alone recursive_set j = refl
+kind_alone legacy_let j = refl
 kind_alone list j = refl
 kind_alone paren j = refl
 kind_alone string j = refl

@@ -1,9 +1,10 @@
 -- A bracketed node that is read without errors alone may replace another one of its kind anywhere, if it nests within the limit.
-use Rattle.std.proofs.Common.{◌≡◌, ℕ, ◌+◌, ◌≤◌, Bool, true, false, List, [], ◌∷◌, ◌++◌, Option, Some, None, refl, ap, sym, ◌∙◌, subst, if◌then◌else◌}
+use Rattle.std.proofs.Common.{◌≡◌, ℕ, ◌+◌, ◌≤◌, Bool, true, false, List, [], ◌∷◌, ◌++◌, Option, Some, None, refl, ap, sym, ◌∙◌, subst, nat_eq, if◌then◌else◌}
 use Rattle.rnix_kinds.specs.declared.kinds.SyntaxKind.{SyntaxKind}
-use Rattle.rnix_kinds.specs.declared.kinds.SyntaxKind.TheVariants.{NODE_ATTR_SET, NODE_LIST, NODE_PAREN, NODE_STRING}
+use Rattle.rnix_kinds.specs.declared.kinds.SyntaxKind.TheVariants.{NODE_ATTR_SET, NODE_LEGACY_LET, NODE_LIST, NODE_PAREN, NODE_STRING}
 use Rattle.rnix_grammar.specs.AnnotatedForest.{Token, AnnotatedForest, blank, token, ◌⊕◌, one_token, tokens_in, leaf_kind, head_kind, end_from}
-use Rattle.rnix_grammar.specs.OperandStarts.{is_pattern, first_kind, second_kind}
+use Rattle.rnix_grammar.specs.Levels.{expression_level}
+use Rattle.rnix_grammar.specs.OperandStarts.{is_pattern, kind_if, first_kind, second_kind}
 use Rattle.rnix_grammar.specs.Fault.{Fault}
 use Rattle.rnix_grammar.specs.Nesting.{depth_of}
 use Rattle.rnix_grammar.specs.Reads.{Reads, leaf, missing_part, IsOver}
@@ -12,7 +13,7 @@ use Rattle.rnix_grammar.specs.Tables.{depth_limit}
 use Rattle.rnix_proof_lemmas.proofs.AnnotatedForestLemmas.{tokens_in-⊕, tokens_two}
 use Rattle.rnix_proof_lemmas.proofs.Basics.{true_is_not_false, not_nil}
 use Rattle.rnix_proof_lemmas.proofs.ReachableRows.{IsKnown, every_known, known_row, known_after}
-use Rattle.rnix_proof_reparse.specs.Bracketed.{IsBracketed, set, list, paren, string}
+use Rattle.rnix_proof_reparse.specs.Bracketed.{IsBracketed, set, recursive_set, legacy_let, list, paren, string}
 use Rattle.rnix_proof_reparse.proofs.SeenItems.{start_kind, Sees, sees_cons, sees_more}
 use Rattle.rnix_proof_reparse.proofs.CarriedReadings.{placed, known_end, ending, close}
 use Rattle.rnix_proof_reparse.proofs.ReplacedReadings.{IsColonless, end_more, IsNodeRead, MayStand}
@@ -28,6 +29,8 @@ bracketed l t x r u = token l t (x ⊕ one_token r u)
 -- whether a closing bracket begins a pattern does not depend on the next item, if this is neither `:` nor `@`
 closing_pattern : {k l r : SyntaxKind} → IsBracketed k l r → (us : List Token) → IsColonless us → is_pattern (Some r) None ≡ is_pattern (Some r) (head_kind us)
 closing_pattern set us colonless = sym colonless
+closing_pattern recursive_set us colonless = sym colonless
+closing_pattern legacy_let us colonless = sym colonless
 closing_pattern list us colonless = refl
 closing_pattern paren us colonless = refl
 closing_pattern string us colonless = refl
@@ -35,6 +38,8 @@ closing_pattern string us colonless = refl
 closing_start : {k l r : SyntaxKind} → IsBracketed k l r → (level : ℕ) (text : List ℕ) (a b : Option SyntaxKind)
     → first_kind level r text None None ≡ first_kind level r text a b
 closing_start set level text a b = refl
+closing_start recursive_set level text a b = refl
+closing_start legacy_let level text a b = refl
 closing_start list level text a b = refl
 closing_start paren level text a b = refl
 closing_start string level text a b = refl
@@ -52,6 +57,8 @@ closing_sees w u e z us colonless = (
 -- whether an opening bracket is the second item of a pattern does not depend on what follows it
 opening_pattern : {k l r : SyntaxKind} → IsBracketed k l r → (a b : Option SyntaxKind) → is_pattern (Some l) a ≡ is_pattern (Some l) b
 opening_pattern set a b = refl
+opening_pattern recursive_set a b = refl
+opening_pattern legacy_let a b = refl
 opening_pattern list a b = refl
 opening_pattern paren a b = refl
 opening_pattern string a b = refl
@@ -59,6 +66,8 @@ opening_pattern string a b = refl
 opening_start : {k l r : SyntaxKind} → IsBracketed k l r → (level : ℕ) (s t : List ℕ) (a b c d : Option SyntaxKind) → first_kind 0 l s a b ≡ k
     → first_kind 0 l t c d ≡ k → first_kind level l s a b ≡ first_kind level l t c d
 opening_start set level s t a b c d e h = e ∙ sym h
+opening_start recursive_set level s t a b c d e h = refl
+opening_start legacy_let level s t a b c d e h = ap (kind_if (nat_eq level expression_level)) (e ∙ sym h)
 opening_start list level s t a b c d e h = refl
 opening_start paren level s t a b c d e h = refl
 opening_start string level s t a b c d e h = refl
@@ -79,6 +88,7 @@ opening_sees {k} {l} w t u e h at ts us b c = (
 -- the row of a bracketed node is complete after its closing bracket only
 abbrev is_bracketed : SyntaxKind → Bool
 is_bracketed NODE_ATTR_SET = true
+is_bracketed NODE_LEGACY_LET = true
 is_bracketed NODE_LIST = true
 is_bracketed NODE_PAREN = true
 is_bracketed NODE_STRING = true
@@ -94,6 +104,8 @@ done_is _ h = absurd (true_is_not_false (sym h))
 
 bracketed_is : {k l r : SyntaxKind} → IsBracketed k l r → is_bracketed k ≡ true
 bracketed_is set = refl
+bracketed_is recursive_set = refl
+bracketed_is legacy_let = refl
 bracketed_is list = refl
 bracketed_is paren = refl
 bracketed_is string = refl
@@ -111,12 +123,16 @@ done_over n (u ∷ us) = (refl, refl)
 -- the row of a bracketed node begins with the opening bracket
 open_expected : {k l r : SyntaxKind} → IsBracketed k l r → (n : ℕ) (ts : List Token) → IsExpected (row k) n ts true
 open_expected set n ts = tt
+open_expected recursive_set n ts = tt
+open_expected legacy_let n ts = tt
 open_expected list n ts = tt
 open_expected paren n ts = tt
 open_expected string n ts = tt
 
 open_followed : {k l r : SyntaxKind} → IsBracketed k l r → (next : Option SyntaxKind) → IsFollowed (row k) blank next
 open_followed set next = tt
+open_followed recursive_set next = tt
+open_followed legacy_let next = tt
 open_followed list next = tt
 open_followed paren next = tt
 open_followed string next = tt

@@ -4,10 +4,10 @@ use Rattle.std.proofs.Common.{if◌then◌else◌, ◌&&◌, ◌||◌, nat_eq}
 use Rattle.std.specs.List.{list_all}
 use Rattle.std.proofs.lemmas.Bool.{and_parts, and_from}
 use Rattle.rnix_kinds.specs.declared.kinds.SyntaxKind.{SyntaxKind}
-use Rattle.rnix_kinds.specs.declared.kinds.SyntaxKind.TheVariants.{NODE_APPLY, NODE_ASSERT, NODE_ATTR_SET, NODE_ATTRPATH, NODE_BIN_OP, NODE_CUR_POS, NODE_ERROR}
-use Rattle.rnix_kinds.specs.declared.kinds.SyntaxKind.TheVariants.{NODE_HAS_ATTR, NODE_IDENT, NODE_IF_ELSE, NODE_LAMBDA, NODE_LET_IN, NODE_LIST, NODE_PAREN}
-use Rattle.rnix_kinds.specs.declared.kinds.SyntaxKind.TheVariants.{NODE_PAT_BIND, NODE_PAT_ENTRY, NODE_ROOT, NODE_SELECT, NODE_STRING, NODE_UNARY_OP, NODE_WITH}
-use Rattle.rnix_kinds.specs.declared.kinds.SyntaxKind.TheVariants.{TOKEN_AT, TOKEN_COLON, TOKEN_R_BRACE}
+use Rattle.rnix_kinds.specs.declared.kinds.SyntaxKind.TheVariants.{NODE_APPLY, NODE_ASSERT, NODE_ATTR_SET, NODE_ATTRPATH, NODE_BIN_OP, NODE_CUR_POS}
+use Rattle.rnix_kinds.specs.declared.kinds.SyntaxKind.TheVariants.{NODE_ERROR, NODE_HAS_ATTR, NODE_IDENT, NODE_IF_ELSE, NODE_LAMBDA, NODE_LEGACY_LET}
+use Rattle.rnix_kinds.specs.declared.kinds.SyntaxKind.TheVariants.{NODE_LET_IN, NODE_LIST, NODE_PAREN, NODE_PAT_BIND, NODE_PAT_ENTRY, NODE_ROOT, NODE_SELECT}
+use Rattle.rnix_kinds.specs.declared.kinds.SyntaxKind.TheVariants.{NODE_STRING, NODE_UNARY_OP, NODE_WITH, TOKEN_AT, TOKEN_COLON, TOKEN_R_BRACE}
 use Rattle.rnix_kinds.specs.SyntaxKind.{is_fn_arg}
 use Rattle.rnix_kinds.proofs.AllKinds.{all_kinds, every, implied}
 use Rattle.rnix_grammar.specs.AnnotatedForest.{Token, AnnotatedForest, blank, token, branch, one_branch, tokens_in, leaf_kind, leaf_kind_as, head_kind}
@@ -25,7 +25,7 @@ use Rattle.rnix_proof_lemmas.proofs.EveryKind.{only}
 use Rattle.rnix_proof_lemmas.proofs.RowKinds.{has_row}
 use Rattle.rnix_proof_lemmas.proofs.ReachableRows.{IsKnown, is_viable, every_known, known_row, known_after}
 use Rattle.rnix_proof_lemmas.proofs.ViableRows.{reads_viable, end_viable, reads_row}
-use Rattle.rnix_proof_reparse.specs.Bracketed.{IsBracketed, set, list, paren, string}
+use Rattle.rnix_proof_reparse.specs.Bracketed.{IsBracketed, set, recursive_set, legacy_let, list, paren, string}
 use Rattle.rnix_proof_reparse.proofs.SwappedNodes.{Swapped, here, past_token, past_branch, inside}
 use Rattle.rnix_proof_reparse.proofs.CarriedReadings.{no_second}
 use Rattle.rnix_proof_reparse.proofs.ReplacedReadings.{IsColonless, IsColonlessAfter}
@@ -34,6 +34,7 @@ use Rattle.rnix_proof_reparse.proofs.SwappedEdges.{AreSome, some_first}
 -- bracketed nodes, and nodes that may end with one
 abbrev pub may_end_bracketed : SyntaxKind → Bool
 may_end_bracketed NODE_ATTR_SET = true
+may_end_bracketed NODE_LEGACY_LET = true
 may_end_bracketed NODE_LIST = true
 may_end_bracketed NODE_PAREN = true
 may_end_bracketed NODE_STRING = true
@@ -54,6 +55,8 @@ may_end_bracketed k = false
 
 bracketed_end : {k l r : SyntaxKind} → IsBracketed k l r → may_end_bracketed k ≡ true
 bracketed_end set = refl
+bracketed_end recursive_set = refl
+bracketed_end legacy_let = refl
 bracketed_end list = refl
 bracketed_end paren = refl
 bracketed_end string = refl

@@ -3,7 +3,7 @@ use Rattle.std.proofs.Common.{◌≡◌, true, false, List, [], ◌∷◌, map, 
 use Rattle.rnix_kinds.specs.SyntaxKind.{is_trivia}
 use Rattle.rnix_kinds.specs.Lexical.Tokens.{Lexeme}
 use Rattle.rnix_green.specs.Forest.{Forest, empty, leaf, node, join}
-use Rattle.rnix_grammar.specs.AnnotatedForest.{Token, lexeme_of, AnnotatedForest, blank, token, branch, fault, ◌⊕◌, forget}
+use Rattle.rnix_grammar.specs.AnnotatedForest.{Token, lexeme_of, AnnotatedForest, blank, token, branch, fault, forget}
 use Rattle.rnix_grammar.specs.Layout.{from_item, from_item_if, trivia_before, trivia_if, tail_of, remaining_after, with_trivia, with_all_trivia}
 use Rattle.rnix_proof_lemmas.proofs.AnnotatedForestLemmas.{forget-⊕}
 use Rattle.rnix_proof_rows.proofs.ReadsShapes.{AreErrorFreeRows}

@@ -14,7 +14,9 @@ pub mod BareNodes
 pub mod NodeReadings
 pub mod CleanTrees
 pub mod ReparsedTokens
+pub mod KeywordNodes
 pub mod ReparsedTrees
+pub mod NodeBrackets
 pub mod ColonlessItems
 pub mod SetBeginnings
 pub mod ReparsedTexts

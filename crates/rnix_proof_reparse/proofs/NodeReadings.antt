@@ -3,24 +3,24 @@ use Rattle.std.proofs.Common.{◌≡◌, ℕ, zero, suc, Bool, true, false, List
 use Rattle.rnix_kinds.specs.declared.kinds.SyntaxKind.{SyntaxKind}
 use Rattle.rnix_kinds.specs.SyntaxKind.{is_trivia}
 use Rattle.rnix_kinds.proofs.AllKinds.{implied}
-use Rattle.rnix_grammar.specs.AnnotatedForest.{Token, lexeme_of, AnnotatedForest, blank, branch, token, ◌⊕◌, one_token, one_branch, tokens_in}
+use Rattle.rnix_grammar.specs.AnnotatedForest.{Token, lexeme_of, AnnotatedForest, blank, branch, ◌⊕◌, one_token, one_branch, tokens_in}
 use Rattle.rnix_grammar.specs.FirstKinds.{BeginsAs, IsOperandOf}
 use Rattle.rnix_grammar.specs.Fault.{Fault}
 use Rattle.rnix_grammar.specs.Layout.{items, item_if}
 use Rattle.rnix_grammar.specs.Operands.{first_tree}
 use Rattle.rnix_grammar.specs.Reads.{Reads, ReadsRoot, deeper, end, leaf, inner, missing_part, wrong, second}
 use Rattle.rnix_grammar.specs.Reports.{repeats}
-use Rattle.rnix_grammar.specs.Rules.{Row, row, after, may_end, level_at}
+use Rattle.rnix_grammar.specs.Rules.{Row, row, may_end, level_at}
 use Rattle.rnix_proof_lemmas.proofs.AnnotatedForestLemmas.{tokens_two}
 use Rattle.rnix_proof_lemmas.proofs.Basics.{not_nil, not_if, none_remaining, none_right}
-use Rattle.rnix_proof_lemmas.proofs.ReachableRows.{known_row, known_after}
+use Rattle.rnix_proof_lemmas.proofs.ReachableRows.{IsKnown}
 use Rattle.rnix_proof_lemmas.proofs.ViableRows.{end_viable}
 use Rattle.rnix_proof_replacement.specs.Replaced.{opens_level, closes_level, one_less, are_balanced}
-use Rattle.rnix_proof_reparse.specs.Bracketed.{IsBracketed, set, list, paren, string}
+use Rattle.rnix_proof_reparse.specs.Bracketed.{IsBracketed, set, recursive_set, legacy_let, list, paren, string}
 use Rattle.rnix_proof_reparse.proofs.SwappedNodes.{Swapped, here, past_token, past_branch, inside}
 use Rattle.rnix_proof_reparse.proofs.SeenItems.{start_kind}
 use Rattle.rnix_proof_reparse.proofs.CarriedReadings.{no_second}
-use Rattle.rnix_proof_reparse.proofs.BracketedNodes.{bracketed, BeginsItself, opened}
+use Rattle.rnix_proof_reparse.proofs.BracketedNodes.{bracketed, BeginsItself}
 use Rattle.rnix_proof_reparse.proofs.BalancedItems.{is_within, balanced_inside}
 
 -- the node is read without errors at some place
@@ -87,6 +87,8 @@ alone h z =
 -- a bracketed node is its own first tree
 kind_first : {k l r : SyntaxKind} → IsBracketed k l r → (x : AnnotatedForest) → first_tree (one_branch k x) ≡ k
 kind_first set x = refl
+kind_first recursive_set x = refl
+kind_first legacy_let x = refl
 kind_first list x = refl
 kind_first paren x = refl
 kind_first string x = refl
@@ -97,18 +99,6 @@ begins_alone {k} {l} {r} w t u x a =
     ap (λ ts. start_kind 0 (t ∷ ts)) (sym (tokens_two x (one_token r u) [])
     ∙ sym (ap (λ z. z ++ []) (append-nil (tokens_in (x ⊕ one_token r u)))))
     ∙ a.begins ∙ kind_first w (bracketed l t x r u)
-
--- the items between the brackets are balanced
-within_start : {k l r : SyntaxKind} → IsBracketed k l r → is_within k (after (row k) l) ≡ true
-within_start set = refl
-within_start list = refl
-within_start paren = refl
-within_start string = refl
-
-inner_items : {k l r : SyntaxKind} (w : IsBracketed k l r) (t u : Token) (x : AnnotatedForest) {d n : ℕ} {s : Row} {us : List Token}
-    → Reads k d n (row k) s blank us (token l t (x ⊕ one_token r u)) [] → may_end s ≡ true → are_balanced (map lexeme_of (tokens_in x) ++ []) 0 ≡ true
-inner_items {k} {l} {r} w t u x {s = s} h e =
-    balanced_inside x r u (opened h refl).1 refl (known_after l (known_row k)) (end_viable s e) (within_start w) 0 []
 
 -- trivia open and close nothing
 trivia_opens : (k : SyntaxKind) → is_trivia k ≡ true → opens_level k ≡ false
@@ -142,9 +132,10 @@ items_balanced (t ∷ ts) n = by (is_trivia t.kind) refl (items_balanced ts)
         choice_same (opens_level t.kind) (closes_level t.kind) n (are_balanced (map lexeme_of ts)) (are_balanced (map lexeme_of (items ts))) ih
         ∙ ap (λ a. are_balanced (map lexeme_of (item_if a t (items ts))) n) (sym e)
 
-pub balanced_between : {k l r : SyntaxKind} (w : IsBracketed k l r) (t u : Token) (x : AnnotatedForest) {d n : ℕ} {s : Row} {us : List Token}
-    → Reads k d n (row k) s blank us (bracketed l t x r u) [] → may_end s ≡ true → (ts : List Token) → items ts ≡ tokens_in x
+-- the tokens between the brackets are balanced
+pub balanced_between : {k : SyntaxKind} (x : AnnotatedForest) (r : SyntaxKind) (u : Token) {d n : ℕ} {q s : Row} {b : AnnotatedForest} {us : List Token}
+    → Reads k d n q s b us (x ⊕ one_token r u) [] → IsKnown k q → is_within k q ≡ true → may_end s ≡ true → (ts : List Token) → items ts ≡ tokens_in x
     → are_balanced (map lexeme_of ts) 0 ≡ true
-balanced_between w t u x h e ts same =
+balanced_between x r u {s = s} h known within e ts same =
     items_balanced ts 0 ∙ ap (λ z. are_balanced (map lexeme_of z) 0) same
-    ∙ sym (ap (λ z. are_balanced z 0) (append-nil (map lexeme_of (tokens_in x)))) ∙ inner_items w t u x h e
+    ∙ sym (ap (λ z. are_balanced z 0) (append-nil (map lexeme_of (tokens_in x)))) ∙ balanced_inside x r u h refl known (end_viable s e) within 0 []

@@ -1,9 +1,11 @@
 -- If a bracketed node of a text is replaced by another that is read alone without errors, the new text has the old tree with the new node in it.
-use Rattle.std.proofs.Common.{◌≡◌, ℕ, ◌+◌, ◌≤◌, List, [], ◌∷◌, ◌++◌, map, None, refl, ap, sym, ◌∙◌, subst, append-nil, arith}
+use Rattle.std.proofs.Common.{◌≡◌, ℕ, ◌+◌, ◌≤◌, List, [], ◌∷◌, ◌++◌, map, true, None, refl, ap, sym, ◌∙◌, subst, append-nil, arith, inl, inr, IsUtf8}
+use Rattle.std.proofs.lemmas.Str.{IsUtf8-append}
 use Rattle.rnix_kinds.specs.declared.kinds.SyntaxKind.{SyntaxKind}
 use Rattle.rnix_kinds.specs.declared.kinds.SyntaxKind.TheVariants.{NODE_ROOT}
 use Rattle.rnix_kinds.specs.SyntaxKind.{is_trivia}
 use Rattle.rnix_kinds.specs.Lexical.Tokens.{Lexeme, tokens_of}
+use Rattle.rnix_kinds.proofs.LexicalLemmas.Laws.{AreSound-tokens_under}
 use Rattle.rnix_green.specs.Forest.{Forest, empty, node, text_of}
 use Rattle.rnix_green.specs.Context.{Context, filled, text_before}
 use Rattle.rnix_grammar.specs.AnnotatedForest.{Token, lexeme_of, AnnotatedForest, blank, branch, tokens_in, forget, without_trivia, placed_from, HaveLeafKinds}
@@ -14,12 +16,12 @@ use Rattle.rnix_grammar.specs.Reads.{ReadsRoot}
 use Rattle.rnix_grammar.specs.Rules.{row}
 use Rattle.rnix_grammar.specs.Tables.{depth_limit}
 use Rattle.rnix_proof_lemmas.proofs.ReachableRows.{known_row}
-use Rattle.rnix_proof_lemmas.proofs.ReportLemmas.{without_trivia_tokens}
 use Rattle.rnix_proof_lemmas.proofs.ViableRows.{end_viable}
 use Rattle.rnix_proof_layout.specs.AlikeItems.{AreAlike}
-use Rattle.rnix_proof_replacement.specs.Replaced.{MayReplace, texts}
+use Rattle.rnix_proof_replacement.specs.Replaced.{texts}
+use Rattle.rnix_proof_replacement.proofs.ReplacedTokens.{may_replace}
 use Rattle.rnix_parser.specs.Significant.{significant}
-use Rattle.rnix_proof_reparse.specs.Bracketed.{IsBracketed}
+use Rattle.rnix_proof_reparse.specs.Bracketed.{IsBracketed, precedes_brace, HaveSameBrace}
 use Rattle.rnix_proof_reparse.specs.LevelsAround.{levels_around, between}
 use Rattle.rnix_proof_reparse.specs.Reparsed.{IsReparsed}
 use Rattle.rnix_proof_reparse.proofs.CarriedReadings.{ending}
@@ -30,11 +32,13 @@ use Rattle.rnix_proof_reparse.proofs.SwappedEdges.{edges_swapped}
 use Rattle.rnix_proof_reparse.proofs.FoundNodes.{tokens_text, text_forest, IsPut, IsFound, find}
 use Rattle.rnix_proof_reparse.proofs.ShiftedItems.{ArePlaced, are_placed, placed_parts, node_alike}
 use Rattle.rnix_proof_reparse.proofs.CountedDepths.{depth_bounded}
-use Rattle.rnix_proof_reparse.proofs.BareNodes.{bare_swapped, bare_levels, bracket_kinds, bare_bracketed}
+use Rattle.rnix_proof_reparse.proofs.BareNodes.{bare_swapped, bare_levels, bracket_kinds, kind_alone, bare_bracketed}
 use Rattle.rnix_proof_reparse.proofs.BareNodes.{bare_forest, IsBetween, between_parts, IsOneNode, one_node}
-use Rattle.rnix_proof_reparse.proofs.NodeReadings.{IsNodeAt, node_at, alone, begins_alone, balanced_between}
+use Rattle.rnix_proof_reparse.proofs.NodeReadings.{IsNodeAt, node_at, IsAlone, alone, begins_alone}
 use Rattle.rnix_proof_reparse.proofs.CleanTrees.{IsCleanTree, clean_tree}
-use Rattle.rnix_proof_reparse.proofs.ReparsedTokens.{lexemes_placed, texts_lexemes, HasNode, four_lexemes, new_lexemes}
+use Rattle.rnix_proof_reparse.proofs.ReparsedTokens.{lexemes_placed, lexeme_same, texts_lexemes, HasNode, four_lexemes, new_lexemes}
+use Rattle.rnix_proof_reparse.proofs.KeywordNodes.{HaveBraces, have_braces, keyword_lexemes}
+use Rattle.rnix_proof_reparse.proofs.NodeBrackets.{beginning, own_brackets, keyword_brackets}
 use Rattle.rnix_proof_reparse.proofs.ReparsedTrees.{bracket_tokens, edges_first, HaveEndKinds, end_kinds, moved, moved_kinds, moved_edges, moved_stands}
 use Rattle.rnix_proof_reparse.proofs.ReparsedTrees.{moved_forest, read_as_trees}
 use Rattle.rnix_proof_reparse.proofs.ColonlessItems.{colonless_after}
@@ -52,6 +56,7 @@ record IsSite (place : Context) (k l r : SyntaxKind) (s v : List ℕ) (inside : 
   tokens : placed_from 0 ls ≡ first ++ (opening ∷ (tokens_in inner ++ (closing ∷ last)))
   before : tokens_text first ≡ text_before place
   kinds : HaveEndKinds k l r opening closing inner
+  trees : forget inner ≡ inside
   put : (e : AnnotatedForest) → IsPut place NODE_ROOT k a (bracketed l opening inner r closing) e first last
 
 site : {k l r : SyntaxKind} (w : IsBracketed k l r) (place : Context) (s v : List ℕ) (d : Forest) (ls : List Lexeme)
@@ -72,6 +77,7 @@ site {k} {l} {r} w place s v d ls o =
           ∙ ap (λ z. f.first ++ z) (bracket_tokens l b.opening b.inner r b.closing f.last);
       before = f.before;
       kinds = end_kinds w b.opening b.closing b.inner (subst (HaveLeafKinds k) b.is f.kinds);
+      trees = b.forest;
       put = λ e. subst (λ z. IsPut place NODE_ROOT k a z e f.first f.last) b.is (f.put e);
     }
 
@@ -163,38 +169,59 @@ module _ {k l r : SyntaxKind} (w : IsBracketed k l r) {place : Context} {s v : L
       old.0 inner.0 behind.1.2 ts placed same)
 
 -- the tokens of the old text, before, in and after the node
-old_tokens : {k l r : SyntaxKind} (w : IsBracketed k l r) {place : Context} {s v : List ℕ} {d : Forest} (before old after : List ℕ)
+old_tokens : {k l r : SyntaxKind} {place : Context} {s v : List ℕ} {d : Forest} (before old after : List ℕ)
     (o : IsCleanTree (tokens_of (before ++ (old ++ after))) (filled place k (between l s d r v)))
-    (m : IsSite place k l r s v d (tokens_of (before ++ (old ++ after))) o.annotated) → IsNodeAt k (bracketed l m.opening (without_trivia m.inner) r m.closing)
-    → text_before place ≡ before → text_of (between l s d r v) ≡ old → HasNode l r before old after m.opening m.closing (tokens_in m.inner) m.first m.last
-old_tokens {k} {l} {r} w before old after o m where_read start extent = record {
+    (m : IsSite place k l r s v d (tokens_of (before ++ (old ++ after))) o.annotated) → text_before place ≡ before → text_of (between l s d r v) ≡ old
+    → HasNode before old after m.opening m.closing (tokens_in m.inner) m.first m.last
+old_tokens {l = l} {r = r} before old after o m start extent = record {
   whole = m.tokens;
   place = m.before ∙ start;
   extent = ap tokens_text (sym (bracket_tokens l m.opening m.inner r m.closing []) ∙ append-nil (tokens_in (bracketed l m.opening m.inner r m.closing)))
       ∙ sym (text_forest (bracketed l m.opening m.inner r m.closing)) ∙ ap text_of m.forest ∙ extent;
-  opening = m.kinds.opening;
-  closing = m.kinds.closing;
-  balanced = balanced_between w m.opening m.closing (without_trivia m.inner) where_read.reads where_read.ended (tokens_in m.inner)
-      (sym (without_trivia_tokens m.inner));
 }
 
 -- the tokens of the new node alone
-new_tokens : {k l r : SyntaxKind} (w : IsBracketed k l r) {s v : List ℕ} {e : Forest} (new : List ℕ) (n : IsNew k l r s v e (tokens_of new))
-    → texts (tokens_of new) ≡ new → HasNode l r [] new [] n.opening n.closing (tokens_in n.inner) [] []
-new_tokens w new n joined =
-    let one = alone n.reads refl in
-    record {
-      whole = ap (λ z. placed_from 0 (tokens_of z)) (append-nil new) ∙ n.tokens;
-      place = refl;
-      extent = ap tokens_text (sym n.tokens) ∙ sym (texts_lexemes (placed_from 0 (tokens_of new))) ∙ ap texts (lexemes_placed 0 (tokens_of new)) ∙ joined;
-      opening = n.kinds.opening;
-      closing = n.kinds.closing;
-      balanced = balanced_between w n.opening n.closing (without_trivia n.inner) one.reads one.ended (tokens_in n.inner) (sym (without_trivia_tokens n.inner));
-    }
+new_tokens : {k l r : SyntaxKind} {s v : List ℕ} {e : Forest} (new : List ℕ) (n : IsNew k l r s v e (tokens_of new)) → texts (tokens_of new) ≡ new
+    → HasNode [] new [] n.opening n.closing (tokens_in n.inner) [] []
+new_tokens new n joined = record {
+  whole = ap (λ z. placed_from 0 (tokens_of z)) (append-nil new) ∙ n.tokens;
+  place = refl;
+  extent = ap tokens_text (sym n.tokens) ∙ sym (texts_lexemes (placed_from 0 (tokens_of new))) ∙ ap texts (lexemes_placed 0 (tokens_of new)) ∙ joined;
+}
+
+node_alone : {k : SyntaxKind} {x : AnnotatedForest} → IsAlone k x → IsNodeAt k x
+node_alone a = record { depth = a.depth; prev = 0; rest = a.rest; next = []; reads = a.reads; ended = a.ended }
+
+-- the tokens of the new text
+edited_tokens : {k l r : SyntaxKind} (w : IsBracketed k l r) {place : Context} {s v : List ℕ} {d e : Forest} (before old after new : List ℕ)
+    (o : IsCleanTree (tokens_of (before ++ (old ++ after))) (filled place k (between l s d r v)))
+    (m : IsSite place k l r s v d (tokens_of (before ++ (old ++ after))) o.annotated) (n : IsNew k l r s v e (tokens_of new))
+    → (precedes_brace l ≡ true → HaveSameBrace d e) → text_before place ≡ before → text_of (between l s d r v) ≡ old → IsUtf8 (before ++ (old ++ after))
+    → IsUtf8 new → texts (tokens_of new) ≡ new
+    → tokens_of (before ++ (new ++ after))
+    ≡ map lexeme_of m.first ++ (lexeme_of n.opening ∷ (map lexeme_of (tokens_in n.inner) ++ (lexeme_of n.closing ∷ map lexeme_of m.last)))
+edited_tokens {k} {l} {r} w {d = d} {e = e} before old after new o m n same_brace place extent old_utf8 new_utf8 joined =
+    let was : HasNode before old after m.opening m.closing (tokens_in m.inner) m.first m.last = old_tokens before old after o m place extent in
+    let now : HasNode [] new [] n.opening n.closing (tokens_in n.inner) [] [] = new_tokens new n joined in
+    let there : IsNodeAt k (bracketed l m.opening (without_trivia m.inner) r m.closing) = old_node w o m n in
+    let here : IsNodeAt k (bracketed l n.opening (without_trivia n.inner) r n.closing) = node_alone (alone n.reads refl) in
+    let start : lexeme_of m.opening ≡ lexeme_of n.opening =
+    lexeme_same m.opening n.opening (m.kinds.opening ∙ sym n.kinds.opening) (m.texts.0 ∙ sym n.texts.0) in
+    let stop : lexeme_of m.closing ≡ lexeme_of n.closing =
+    lexeme_same m.closing n.closing (m.kinds.closing ∙ sym n.kinds.closing) (m.texts.1 ∙ sym n.texts.1) in
+    elim (beginning w d e same_brace) [
+      | inl i ↦ new_lexemes (may_replace before old after [] new [] old_utf8 (subst IsUtf8 (sym (append-nil new)) new_utf8)) was
+          (own_brackets w i m.opening m.closing m.inner m.kinds there) now (own_brackets w i n.opening n.closing n.inner n.kinds here) start stop
+      | inr i ↦
+          let b : HaveBraces m.inner n.inner =
+          have_braces k (kind_alone w) i.same m.inner n.inner m.trees n.forest m.kinds.inner n.kinds.inner in
+          keyword_lexemes was now b start stop (keyword_brackets w i m.opening m.closing m.inner b.old m.kinds there)
+          (keyword_brackets w i n.opening n.closing n.inner b.new n.kinds here) old_utf8 new_utf8
+    ]
 
 -- the law `reparsing`
-pub reparsed : (before old after new : List ℕ) → MayReplace before old after [] new [] → texts (tokens_of new) ≡ new → IsReparsed before old after new
-reparsed before old after new may joined place k l r s v d e h tree faults reading =
+pub reparsed : (before old after new : List ℕ) → IsUtf8 before → IsUtf8 old → IsUtf8 after → IsUtf8 new → IsReparsed before old after new
+reparsed before old after new before_utf8 old_utf8 after_utf8 new_utf8 place k l r s v d e h tree faults reading =
     let w = h.brackets in
     let ls : List Lexeme = tokens_of (before ++ (old ++ after)) in
     let ms : List Lexeme = tokens_of (before ++ (new ++ after)) in
@@ -204,8 +231,8 @@ reparsed before old after new may joined place k l r s v d e h tree faults readi
     new_node w s v e (tokens_of new) (clean_tree (tokens_of new) (node k (between l s e r v) empty) h.alone) in
     let p = put w o m n in
     let lexemes : ms ≡ map lexeme_of m.first ++ (lexeme_of n.opening ∷ (map lexeme_of (tokens_in n.inner) ++ (lexeme_of n.closing ∷ map lexeme_of m.last))) =
-    new_lexemes w may (old_tokens w before old after o m (old_node w o m n) h.start h.extent) (new_tokens w new n joined) (m.texts.0 ∙ sym n.texts.0)
-    (m.texts.1 ∙ sym n.texts.1) in
+    edited_tokens w before old after new o m n h.same_brace h.start h.extent
+    (IsUtf8-append before (old ++ after) before_utf8 (IsUtf8-append old after old_utf8 after_utf8)) new_utf8 (AreSound-tokens_under [] new new_utf8).joined in
     let same : map lexeme_of (tokens_in p.trees) ≡ ms =
     ap (map lexeme_of) (put_tokens w o m n)
     ∙ four_lexemes m.first (tokens_in n.inner) m.last (starting n.opening m.opening.start) (ending n.closing m.closing.end) ∙ sym lexemes in

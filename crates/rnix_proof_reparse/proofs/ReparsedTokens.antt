@@ -1,12 +1,11 @@
 -- The tokens of a text in which a bracketed node was replaced.
-use Rattle.std.proofs.Common.{◌≡◌, ℕ, ◌+◌, true, List, [], ◌∷◌, ◌++◌, map, length, refl, ap, sym, ◌∙◌, subst}
+use Rattle.std.proofs.Common.{◌≡◌, ℕ, ◌+◌, true, List, [], ◌∷◌, ◌++◌, map, length, refl, ap, sym, ◌∙◌, subst, append_assoc}
 use Rattle.std.proofs.lemmas.List.{map-append}
 use Rattle.rnix_kinds.specs.declared.kinds.SyntaxKind.{SyntaxKind}
 use Rattle.rnix_kinds.specs.Lexical.Tokens.{Lexeme, tokens_of}
 use Rattle.rnix_grammar.specs.AnnotatedForest.{Token, lexeme_of, placed_from}
 use Rattle.rnix_proof_replacement.specs.Replaced.{is_opening, is_closing, are_balanced, texts, AreBrackets, MayReplace}
-use Rattle.rnix_proof_reparse.specs.Bracketed.{IsBracketed, set, list, paren, string}
-use Rattle.rnix_proof_reparse.proofs.FoundNodes.{tokens_text}
+use Rattle.rnix_proof_reparse.proofs.FoundNodes.{tokens_text, text_tokens}
 
 pub lexemes_placed : (n : ℕ) (ls : List Lexeme) → map lexeme_of (placed_from n ls) ≡ ls
 lexemes_placed n [] = refl
@@ -19,19 +18,16 @@ pub texts_lexemes : (ts : List Token) → texts (map lexeme_of ts) ≡ tokens_te
 texts_lexemes [] = refl
 texts_lexemes (t ∷ ts) = ap (λ z. t.text ++ z) (texts_lexemes ts)
 
-bracket_opens : {k l r : SyntaxKind} → IsBracketed k l r → (is_opening l ≡ true) × (is_closing r ≡ true)
-bracket_opens set = (refl, refl)
-bracket_opens list = (refl, refl)
-bracket_opens paren = (refl, refl)
-bracket_opens string = (refl, refl)
-
--- the tokens of a text are those of a bracketed node, and those before and after it
-pub record HasNode (l r : SyntaxKind) (before part after : List ℕ) (t u : Token) (inner first last : List Token) : Type 0 where
+-- a node in a text, by its first and last tokens, those between them, and those around it
+pub record HasNode (before part after : List ℕ) (t u : Token) (inner first last : List Token) : Type 0 where
   pub whole : placed_from 0 (tokens_of (before ++ (part ++ after))) ≡ first ++ (t ∷ (inner ++ (u ∷ last)))
   pub place : tokens_text first ≡ before
   pub extent : tokens_text (t ∷ (inner ++ (u ∷ []))) ≡ part
-  pub opening : t.kind ≡ l
-  pub closing : u.kind ≡ r
+
+-- its first and last tokens are brackets
+pub record HasBrackets (t u : Token) (inner : List Token) : Type 0 where
+  pub opening : is_opening t.kind ≡ true
+  pub closing : is_closing u.kind ≡ true
   pub balanced : are_balanced (map lexeme_of inner) 0 ≡ true
 
 -- the lexemes of such tokens
@@ -41,27 +37,52 @@ four_lexemes first inner last t u =
     map-append lexeme_of first (t ∷ (inner ++ (u ∷ last)))
     ∙ ap (λ z. map lexeme_of first ++ (lexeme_of t ∷ z)) (map-append lexeme_of inner (u ∷ last))
 
-are_brackets : {k l r : SyntaxKind} (w : IsBracketed k l r) {before part after : List ℕ} {t u : Token} {inner first last : List Token}
-    → HasNode l r before part after t u inner first last
-    → AreBrackets before part after (lexeme_of t) (lexeme_of u) (map lexeme_of inner) (map lexeme_of first) (map lexeme_of last)
-are_brackets w {before} {part} {after} {t} {u} {inner} {first} {last} h = record {
+are_brackets : {before part after : List ℕ} {t u : Token} {inner first last : List Token} → HasNode before part after t u inner first last
+    → HasBrackets t u inner → AreBrackets before part after (lexeme_of t) (lexeme_of u) (map lexeme_of inner) (map lexeme_of first) (map lexeme_of last)
+are_brackets {before} {part} {after} {t} {u} {inner} {first} {last} h b = record {
   whole = sym (lexemes_placed 0 (tokens_of (before ++ (part ++ after)))) ∙ ap (map lexeme_of) h.whole ∙ four_lexemes first inner last t u;
   before_is = texts_lexemes first ∙ h.place;
   extent = ap (λ z. t.text ++ texts z) (sym (map-append lexeme_of inner (u ∷ []))) ∙ texts_lexemes (t ∷ (inner ++ (u ∷ []))) ∙ h.extent;
-  opening = ap is_opening h.opening ∙ (bracket_opens w).0;
-  closing = ap is_closing h.closing ∙ (bracket_opens w).1;
-  balanced = h.balanced;
+  opening = b.opening;
+  closing = b.closing;
+  balanced = b.balanced;
 }
 
 -- the tokens of the new text are those of the new node, and the old ones around it
-pub new_lexemes : {k l r : SyntaxKind} (w : IsBracketed k l r) {before old after new : List ℕ} {t u : Token} {inner first last : List Token} {a b : Token}
-    {others : List Token} → MayReplace before old after [] new [] → HasNode l r before old after t u inner first last
-    → HasNode l r [] new [] a b others [] [] → t.text ≡ a.text → u.text ≡ b.text
+pub new_lexemes : {before old after start new : List ℕ} {t u a b : Token} {inner first last others front : List Token}
+    → MayReplace before old after start new [] → HasNode before old after t u inner first last → HasBrackets t u inner
+    → HasNode start new [] a b others front [] → HasBrackets a b others → lexeme_of t ≡ lexeme_of a → lexeme_of u ≡ lexeme_of b
     → tokens_of (before ++ (new ++ after)) ≡ map lexeme_of first ++ (lexeme_of a ∷ (map lexeme_of others ++ (lexeme_of b ∷ map lexeme_of last)))
-new_lexemes w {before} {old} {after} {new} {t} {u} {inner} {first} {last} {a} {b} {others} may was now e h =
-    let remaining : lexeme_of t ≡ lexeme_of a = lexeme_same t a (was.opening ∙ sym now.opening) e in
-    let right : lexeme_of u ≡ lexeme_of b = lexeme_same u b (was.closing ∙ sym now.closing) h in
-    (may (lexeme_of a) (lexeme_of b) (map lexeme_of inner) (map lexeme_of first) (map lexeme_of last) (map lexeme_of others) [] []
-    (subst (λ z. AreBrackets before old after z (lexeme_of b) (map lexeme_of inner) (map lexeme_of first) (map lexeme_of last)) remaining
-    (subst (λ z. AreBrackets before old after (lexeme_of t) z (map lexeme_of inner) (map lexeme_of first) (map lexeme_of last)) right (are_brackets w was)))
-    (are_brackets w now)).whole
+new_lexemes {before} {old} {after} {t = t} {a = a} {b = b} {inner = inner} {first = first} {last = last} {others = others} {front = front} may was old_ends
+    now new_ends left right =
+    (may (lexeme_of a) (lexeme_of b) (map lexeme_of inner) (map lexeme_of first) (map lexeme_of last) (map lexeme_of others) (map lexeme_of front) []
+    (subst (λ z. AreBrackets before old after z (lexeme_of b) (map lexeme_of inner) (map lexeme_of first) (map lexeme_of last)) left
+    (subst (λ z. AreBrackets before old after (lexeme_of t) z (map lexeme_of inner) (map lexeme_of first) (map lexeme_of last)) right
+    (are_brackets was old_ends)))
+    (are_brackets now new_ends)).whole
+
+-- the node behind its first tokens
+behind : (head : List Token) (a : Token) (rest us : List Token) → (head ++ (a ∷ rest)) ++ us ≡ head ++ (a ∷ (rest ++ us))
+behind head a rest us = append_assoc head (a ∷ rest) us
+
+module _ {before part after : List ℕ} {t u : Token} {inner first last : List Token} (h : HasNode before part after t u inner first last)
+    (head : List Token) (a : Token) (rest : List Token) (is : inner ≡ head ++ (a ∷ rest)) where
+  pub part_behind : part ≡ tokens_text (t ∷ head) ++ tokens_text (a ∷ (rest ++ (u ∷ [])))
+  part_behind =
+      sym h.extent ∙ ap (λ z. tokens_text (t ∷ z)) (ap (λ z. z ++ (u ∷ [])) is ∙ behind head a rest (u ∷ []))
+      ∙ text_tokens (t ∷ head) (a ∷ (rest ++ (u ∷ [])))
+
+  pub text_behind : before ++ (part ++ after) ≡ (before ++ tokens_text (t ∷ head)) ++ (tokens_text (a ∷ (rest ++ (u ∷ []))) ++ after)
+  text_behind =
+      ap (λ z. before ++ (z ++ after)) part_behind
+      ∙ ap (λ z. before ++ z) (append_assoc (tokens_text (t ∷ head)) (tokens_text (a ∷ (rest ++ (u ∷ [])))) after)
+      ∙ sym (append_assoc before (tokens_text (t ∷ head)) (tokens_text (a ∷ (rest ++ (u ∷ []))) ++ after))
+
+  pub node_behind : HasNode (before ++ tokens_text (t ∷ head)) (tokens_text (a ∷ (rest ++ (u ∷ [])))) after a u rest (first ++ (t ∷ head)) last
+  node_behind = record {
+    whole = ap (λ z. placed_from 0 (tokens_of z)) (sym text_behind) ∙ h.whole
+        ∙ ap (λ z. first ++ (t ∷ z)) (ap (λ z. z ++ (u ∷ last)) is ∙ behind head a rest (u ∷ last))
+        ∙ sym (append_assoc first (t ∷ head) (a ∷ (rest ++ (u ∷ last))));
+    place = text_tokens first (t ∷ head) ∙ ap (λ z. z ++ tokens_text (t ∷ head)) h.place;
+    extent = refl;
+  }

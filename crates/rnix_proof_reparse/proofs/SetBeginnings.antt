@@ -4,25 +4,27 @@ use Rattle.std.proofs.Common.{if◌then◌else◌, ◌&&◌, ◌||◌}
 use Rattle.std.proofs.lemmas.Bool.{and_from}
 use Rattle.rnix_kinds.specs.declared.kinds.SyntaxKind.{SyntaxKind}
 use Rattle.rnix_kinds.specs.declared.kinds.SyntaxKind.TheVariants.{NODE_ATTR_SET, NODE_ATTRPATH, NODE_ATTRPATH_VALUE, NODE_DYNAMIC, NODE_IDENT, NODE_INHERIT}
-use Rattle.rnix_kinds.specs.declared.kinds.SyntaxKind.TheVariants.{NODE_PATTERN, NODE_STRING, TOKEN_ASSIGN, TOKEN_DOT, TOKEN_IDENT, TOKEN_INHERIT}
-use Rattle.rnix_kinds.specs.declared.kinds.SyntaxKind.TheVariants.{TOKEN_INTERPOL_START, TOKEN_L_BRACE, TOKEN_R_BRACE, TOKEN_STRING_START}
+use Rattle.rnix_kinds.specs.declared.kinds.SyntaxKind.TheVariants.{NODE_LEGACY_LET, NODE_PATTERN, NODE_STRING, TOKEN_ASSIGN, TOKEN_DOT, TOKEN_IDENT}
+use Rattle.rnix_kinds.specs.declared.kinds.SyntaxKind.TheVariants.{TOKEN_INHERIT, TOKEN_INTERPOL_START, TOKEN_L_BRACE, TOKEN_LET, TOKEN_R_BRACE}
+use Rattle.rnix_kinds.specs.declared.kinds.SyntaxKind.TheVariants.{TOKEN_STRING_START}
 use Rattle.rnix_kinds.proofs.AllKinds.{implied}
 use Rattle.rnix_green.specs.Equality.{same_kind}
 use Rattle.rnix_grammar.specs.AnnotatedForest.{Token, AnnotatedForest, blank, token, branch, fault, ◌⊕◌, one_token, tokens_in, leaf_kind, head_kind}
-use Rattle.rnix_grammar.specs.OperandStarts.{is_pattern, first_kind, second_kind}
+use Rattle.rnix_grammar.specs.OperandStarts.{is_pattern, first_kind_of_let, first_kind, second_kind}
 use Rattle.rnix_grammar.specs.Fault.{Fault}
 use Rattle.rnix_grammar.specs.Reads.{Reads, end, leaf, inner, missing_part, wrong, second}
 use Rattle.rnix_grammar.specs.Reports.{repeats}
 use Rattle.rnix_grammar.specs.NodeClasses.{is_attr, is_entry}
 use Rattle.rnix_grammar.specs.Rules.{Row, row, after, may_end, begins_attr, IsExpected}
 use Rattle.rnix_grammar.specs.TokenKinds.{is_inherit_token}
+use Rattle.rnix_proof_lemmas.proofs.AnnotatedForestLemmas.{tokens_in-⊕}
 use Rattle.rnix_proof_lemmas.proofs.Basics.{true_is_not_false, not_nil, none_remaining, none_right}
 use Rattle.rnix_proof_lemmas.proofs.EachKind.{each_kind}
 use Rattle.rnix_proof_lemmas.proofs.EveryKind.{only}
 use Rattle.rnix_proof_lemmas.proofs.RowKinds.{has_row}
 use Rattle.rnix_proof_lemmas.proofs.ReachableRows.{is_viable}
 use Rattle.rnix_proof_lemmas.proofs.ViableRows.{reads_viable, end_viable, reads_row, past_ends}
-use Rattle.rnix_proof_reparse.specs.Bracketed.{IsBracketed, set, list, paren, string}
+use Rattle.rnix_proof_reparse.specs.Bracketed.{IsBracketed, set, recursive_set, legacy_let, list, paren, string}
 use Rattle.rnix_proof_reparse.proofs.CarriedReadings.{no_second}
 use Rattle.rnix_proof_reparse.proofs.BracketedNodes.{bracketed, BeginsItself, opened}
 use Rattle.rnix_proof_reparse.proofs.BalancedItems.{is_over, not_over}
@@ -261,6 +263,14 @@ inside_none (branch j y x) r u {q' = q'} {b = b} q same (inner {ds = ds} {es = e
     none_more (tokens_in y) (tokens_in x)
     (entry_none j y (clean hr (none_remaining ds (repeats j b y) (none_remaining (ds ++ repeats j b y) es z))) over.0 (entry_is j kind)) (u ∷ [])
 
+-- after `let` in a `let { }` there is a brace
+let_brace : (x : AnnotatedForest) (r : SyntaxKind) (u : Token) {d n : ℕ} {s : Row} {b : AnnotatedForest} {us : List Token}
+    → Reads NODE_LEGACY_LET d n (after (row NODE_LEGACY_LET) TOKEN_LET) s b us (x ⊕ one_token r u) [] → may_end s ≡ true
+    → head_kind (tokens_in x ++ (u ∷ [])) ≡ Some TOKEN_L_BRACE
+let_brace x r u h e =
+    let w = first_leaf TOKEN_L_BRACE h refl e refl refl (only (λ k. is_viable (after (after (row NODE_LEGACY_LET) TOKEN_LET) k)) TOKEN_L_BRACE refl) in
+    ap head_kind (sym (tokens_in-⊕ x (one_token r u)) ∙ ap tokens_in w.is) ∙ ap Some w.kind
+
 -- the items of a bracketed node begin this node as an operand
 pub begins_itself : {k l r : SyntaxKind} (w : IsBracketed k l r) (t u : Token) (x : AnnotatedForest) {d n : ℕ} {s : Row} {us : List Token}
     → Reads k d n (row k) s blank us (bracketed l t x r u) [] → may_end s ≡ true → t.kind ≡ l → BeginsItself k l t x r u
@@ -270,6 +280,11 @@ begins_itself paren t u x h e kind =
     ap (λ j. first_kind 0 j t.text (head_kind (tokens_in x ++ (u ∷ []))) (second_kind (tokens_in x ++ (u ∷ [])))) kind
 begins_itself string t u x h e kind =
     ap (λ j. first_kind 0 j t.text (head_kind (tokens_in x ++ (u ∷ []))) (second_kind (tokens_in x ++ (u ∷ [])))) kind
+begins_itself recursive_set t u x h e kind =
+    ap (λ j. first_kind 0 j t.text (head_kind (tokens_in x ++ (u ∷ []))) (second_kind (tokens_in x ++ (u ∷ [])))) kind
+begins_itself {r = r} legacy_let t u x h e kind =
+    ap (λ j. first_kind 0 j t.text (head_kind (tokens_in x ++ (u ∷ []))) (second_kind (tokens_in x ++ (u ∷ [])))) kind
+    ∙ ap first_kind_of_let (let_brace x r u (opened h refl).1 e)
 begins_itself {r = r} set t u x h e kind =
     ap (λ j. first_kind 0 j t.text (head_kind (tokens_in x ++ (u ∷ []))) (second_kind (tokens_in x ++ (u ∷ [])))) kind
     ∙ ap (λ w. if w then NODE_PATTERN else NODE_ATTR_SET) (inside_none x r u entries refl (opened h refl).1 refl e)

@@ -12,7 +12,7 @@ use Rattle.rnix_proof_lemmas.proofs.Basics.{true_is_not_false, not_nil}
 use Rattle.rnix_proof_lemmas.proofs.LayoutLemmas.{items-++}
 use Rattle.rnix_proof_layout.specs.AlikeItems.{AreAlike, is_in_path, may_join}
 use Rattle.rnix_proof_layout.proofs.Touch.{last_kind}
-use Rattle.rnix_proof_reparse.specs.Bracketed.{IsBracketed, set, list, paren, string}
+use Rattle.rnix_proof_reparse.specs.Bracketed.{IsBracketed, set, recursive_set, legacy_let, list, paren, string}
 
 -- tokens one after another from a byte on
 abbrev pub ArePlaced : ℕ → List Token → Type 0
@@ -89,12 +89,16 @@ alike_append prev n m (x ∷ xs) [] us vs h g = absurd h
 -- no bracket continues a path
 bracket_pieces : {k l r : SyntaxKind} → IsBracketed k l r → (is_piece_start l ≡ false) × (is_piece_start r ≡ false)
 bracket_pieces set = (refl, refl)
+bracket_pieces recursive_set = (refl, refl)
+bracket_pieces legacy_let = (refl, refl)
 bracket_pieces list = (refl, refl)
 bracket_pieces paren = (refl, refl)
 bracket_pieces string = (refl, refl)
 
 bracket_items : {k l r : SyntaxKind} → IsBracketed k l r → (is_trivia l ≡ false) × (is_trivia r ≡ false)
 bracket_items set = (refl, refl)
+bracket_items recursive_set = (refl, refl)
+bracket_items legacy_let = (refl, refl)
 bracket_items list = (refl, refl)
 bracket_items paren = (refl, refl)
 bracket_items string = (refl, refl)

@@ -12,7 +12,7 @@ use Rattle.rnix_grammar.specs.TokenKinds.{is_or}
 use Rattle.rnix_grammar.specs.declared.rules.Part.TheVariants.{Suffix, Binary, Argument}
 use Rattle.rnix_grammar.specs.Rules.{Row, ◌·◌, is_first_expected, level_at, IsFollowed}
 use Rattle.rnix_proof_lemmas.proofs.EachKind.{each_kind}
-use Rattle.rnix_proof_reparse.specs.Bracketed.{IsBracketed, set, list, paren, string}
+use Rattle.rnix_proof_reparse.specs.Bracketed.{IsBracketed, set, recursive_set, legacy_let, list, paren, string}
 
 -- two forests are equal except for the children of one node of the kind
 pub data Swapped (k : SyntaxKind) (c e : AnnotatedForest) : AnnotatedForest → AnnotatedForest → Type 0 where
@@ -25,24 +25,32 @@ pub data Swapped (k : SyntaxKind) (c e : AnnotatedForest) : AnnotatedForest → 
 -- the level of a bracketed node does not depend on its children, and it is no name
 level_here : {k l r : SyntaxKind} → IsBracketed k l r → (c e : AnnotatedForest) → level_of k c ≡ level_of k e
 level_here set c e = refl
+level_here recursive_set c e = refl
+level_here legacy_let c e = refl
 level_here list c e = refl
 level_here paren c e = refl
 level_here string c e = refl
 
 first_here : {k l r : SyntaxKind} → IsBracketed k l r → (c e f : AnnotatedForest) → first_tree (branch k c f) ≡ first_tree (branch k e f)
 first_here set c e f = refl
+first_here recursive_set c e f = refl
+first_here legacy_let c e f = refl
 first_here list c e f = refl
 first_here paren c e f = refl
 first_here string c e f = refl
 
 or_here : {k l r : SyntaxKind} → IsBracketed k l r → (c e f : AnnotatedForest) → is_or_row (branch k c f) ≡ is_or_row (branch k e f)
 or_here set c e f = refl
+or_here recursive_set c e f = refl
+or_here legacy_let c e f = refl
 or_here list c e f = refl
 or_here paren c e f = refl
 or_here string c e f = refl
 
 name_here : {k l r : SyntaxKind} → IsBracketed k l r → (c e f : AnnotatedForest) → entry_name (branch k c f) ≡ entry_name (branch k e f)
 name_here set c e f = refl
+name_here recursive_set c e f = refl
+name_here legacy_let c e f = refl
 name_here list c e f = refl
 name_here paren c e f = refl
 name_here string c e f = refl
@@ -50,6 +58,8 @@ name_here string c e f = refl
 entry_here : {k l r : SyntaxKind} → IsBracketed k l r → (name : List ℕ) (c e f : AnnotatedForest)
     → has_entry name (branch k c f) ≡ has_entry name (branch k e f)
 entry_here set name c e f = refl
+entry_here recursive_set name c e f = refl
+entry_here legacy_let name c e f = refl
 entry_here list name c e f = refl
 entry_here paren name c e f = refl
 entry_here string name c e f = refl
@@ -137,6 +147,8 @@ entry_later name j d f g i = each_kind (λ j. has_entry name (branch j d f) ≡ 
 -- a bracketed node adds no name
 pub repeats_here : {k l r : SyntaxKind} → IsBracketed k l r → (b c e : AnnotatedForest) → repeats k b c ≡ repeats k b e
 repeats_here set b c e = refl
+repeats_here recursive_set b c e = refl
+repeats_here legacy_let b c e = refl
 repeats_here list b c e = refl
 repeats_here paren b c e = refl
 repeats_here string b c e = refl

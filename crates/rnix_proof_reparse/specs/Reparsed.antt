@@ -1,5 +1,5 @@
 -- The tree of a text in which what is inside a bracketed node was edited.
-use Rattle.std.specs.Prelude.{◌≡◌, ◌≤◌, ◌+◌, ℕ, List, [], ◌++◌}
+use Rattle.std.specs.Prelude.{◌≡◌, ◌≤◌, ◌+◌, ℕ, true, List, [], ◌++◌}
 use Rattle.rnix_kinds.specs.declared.kinds.SyntaxKind.{SyntaxKind}
 use Rattle.rnix_kinds.specs.declared.kinds.SyntaxKind.TheVariants.{NODE_ROOT}
 use Rattle.rnix_kinds.specs.Lexical.Tokens.{tokens_of}
@@ -11,18 +11,20 @@ use Rattle.rnix_grammar.specs.Reading.{IsReading}
 use Rattle.rnix_grammar.specs.Tables.{depth_limit}
 use Rattle.rnix_parser.specs.ReadingLaws.{OfRead}
 use Rattle.rnix_parser.specs.Significant.{significant}
-use Rattle.rnix_proof_reparse.specs.Bracketed.{IsBracketed}
+use Rattle.rnix_proof_reparse.specs.Bracketed.{IsBracketed, precedes_brace, HaveSameBrace}
 use Rattle.rnix_proof_reparse.specs.LevelsAround.{levels_around, between}
 
 -- the tree below a root
 abbrev pub rooted : Forest → Tree
 rooted f = record { kind = NODE_ROOT; children = f }
 
--- A node of a tree that is the reading of a text without errors: its place, its kind, its brackets, and what is between them, in the old text and in a text
--- that is read as one such node alone, without errors; the new node nests no deeper than the limit allows in the place of the old one.
+-- A node of a tree that is the reading of a text without errors: its place, its kind, its first and last token, and what is between them, in the old text and
+-- in a text that is read as one such node alone, without errors; both have the same tokens up to the opening bracket, and the new node nests no deeper than
+-- the limit allows in the place of the old one.
 pub record IsEdited (before old after new : List ℕ) (place : Context) (kind remaining right : SyntaxKind) (opening closing : List ℕ)
     (inside edited : Forest) : Type 0 where
   pub brackets : IsBracketed kind remaining right
+  pub same_brace : precedes_brace remaining ≡ true → HaveSameBrace inside edited
   pub start : text_before place ≡ before
   pub extent : text_of (between remaining opening inside right closing) ≡ old
   pub reading : IsReading (tokens_of (before ++ (old ++ after))) (rooted (filled place kind (between remaining opening inside right closing))) []

@@ -6,6 +6,7 @@ pub mod Climbing
 pub mod WalkHeights
 pub mod Heights
 pub mod Sites
+pub mod SameBraces
 pub mod SplicedReadings
 pub mod OwnTexts
 pub mod EditedNodes

@@ -8,7 +8,7 @@ use Rattle.rnix_green.specs.Context.{Context, here, behind_leaf, behind_node, in
 use Rattle.rnix_green.specs.Splice.{IsSpliced}
 use Rattle.rnix_green.proofs.ContextLemmas.{found, shown}
 use Rattle.rnix_green.proofs.SpliceLemmas.{only_child}
-use Rattle.rnix_proof_reparse.specs.Bracketed.{IsBracketed, set, list, paren, string}
+use Rattle.rnix_proof_reparse.specs.Bracketed.{IsBracketed, set, recursive_set, legacy_let, list, paren, string}
 use Rattle.rnix_proof_reparse.specs.LevelsAround.{between}
 use Rattle.rnix_proof_reparse.specs.Reparsed.{rooted}
 use Rattle.rnix_reparse.specs.OwnBrackets.{HasBrackets, HasSameBrackets}
@@ -60,16 +60,11 @@ below_root t (inside j x f) k c e other = record {
 -- a node with brackets is not the root
 no_root : {k l r : SyntaxKind} → IsBracketed k l r → k ≡ NODE_ROOT → ⊥
 no_root set e = cc
+no_root recursive_set e = cc
+no_root legacy_let e = cc
 no_root list e = cc
 no_root paren e = cc
 no_root string e = cc
-
--- a kind has only one pair of brackets
-pub same_brackets : {k l r m s : SyntaxKind} → IsBracketed k l r → IsBracketed k m s → (l ≡ m) × (r ≡ s)
-same_brackets set set = (refl, refl)
-same_brackets list list = (refl, refl)
-same_brackets paren paren = (refl, refl)
-same_brackets string string = (refl, refl)
 
 -- the children of a node between its first and its last one
 abbrev pub enclosed : Tree → ℕ → Forest → Forest
@@ -133,12 +128,11 @@ new_node t n u h =
     let place : forest_of u ≡ filled (inside u.kind (here empty) empty) child.kind child.children = ap (λ f. node u.kind f empty) child.is in
     let kind : child.kind ≡ (item t n).kind =
     sym (shown u 1 (inside u.kind (here empty) empty) child.kind child.children place refl).kind ∙ sym h.kind in
-    let brackets = same_brackets h.old.brackets
-    (subst (λ k. IsBracketed k (item u 2).kind (item u (1 + (item u 1).below)).kind) (sym h.kind) h.new.brackets) in
     record {
       edited = inner.inside;
       is = child.is ∙ ap (λ k. node k child.children empty) kind
-          ∙ ap (λ f. node (item t n).kind f empty) (inner.is ∙ same_enclosed _ _ _ _ _ _ _ _ inner.inside brackets.0 brackets.1 h.opening h.closing);
+          ∙ ap (λ f. node (item t n).kind f empty) (inner.is ∙ same_enclosed _ _ _ _ _ _ _ _ inner.inside h.opening.kind h.closing.kind h.opening.text
+          h.closing.text);
     }
 
 -- the tree in which the new node replaces the old one, as a context with that node

@@ -1,7 +1,7 @@
 -- The tree with the new node in place of the old one is the reading of the edited text.
 use Rattle.std.proofs.Common.{◌≡◌, ℕ, suc, ◌+◌, ◌-◌, ◌≤◌, ◌<◌, max, List, [], ◌++◌, length, take, drop, refl, ap, sym, ◌∙◌, subst, arith, append_assoc, length-append}
 use Rattle.std.specs.Str.{IsUtf8}
-use Rattle.std.proofs.lemmas.Str.{IsUtf8-nil, IsUtf8-append}
+use Rattle.std.proofs.lemmas.Str.{IsUtf8-append}
 use Rattle.std.proofs.lemmas.List.{drop_at, take_at}
 use Rattle.rnix_kinds.specs.declared.kinds.SyntaxKind.{SyntaxKind}
 use Rattle.rnix_kinds.specs.declared.kinds.SyntaxKind.TheVariants.{NODE_ROOT}
@@ -20,16 +20,16 @@ use Rattle.rnix_grammar.specs.Tables.{depth_limit}
 use Rattle.rnix_parser.specs.Significant.{significant}
 use Rattle.rnix_parser.proofs.OneReading.{has_reading}
 use Rattle.rnix_parser.proofs.ParsedLemmas.{all_follows}
-use Rattle.rnix_proof_replacement.proofs.ReplacedTokens.{parts_replaced}
 use Rattle.rnix_proof_reparse.specs.LevelsAround.{levels_around}
 use Rattle.rnix_proof_reparse.specs.Reparsed.{rooted, IsEdited}
 use Rattle.rnix_proof_reparse.proofs.ReparsedTexts.{reparsed}
-use Rattle.rnix_reparse.specs.OwnBrackets.{HasBrackets, HasSameBrackets}
+use Rattle.rnix_reparse.specs.OwnBrackets.{HasSameBrackets}
 use Rattle.rnix_reparse.specs.TreeHeight.{AreAround, height, FitsAt}
 use Rattle.rnix_reparse.proofs.NodesAround.{nodes_around, counted_around}
 use Rattle.rnix_reparse.proofs.EditedTexts.{characters_apart}
 use Rattle.rnix_reparse.proofs.Heights.{nest_within, few_levels}
 use Rattle.rnix_reparse.proofs.Sites.{IsSite, site, IsNewNode, new_node, enclosed, spliced_tree}
+use Rattle.rnix_reparse.proofs.SameBraces.{same_insides}
 
 -- the root of a reading is a NODE_ROOT
 pub root_kind : (ls : List Lexeme) (t : Tree) (es : List Fault) → IsReading ls t es → t.kind ≡ NODE_ROOT
@@ -71,7 +71,7 @@ shallow t u n s m h =
     room levels depth nested inner tall limit e f g h i = omega (arith, e, f, g, h, i)
 
 -- the reading of the edited text is the tree with the new node
-reads_spliced : (t u v : Tree) (n : ℕ) (before old after new : List ℕ) (s : IsSite t n) (m : IsNewNode t n u) → HasBrackets t n → FitsAt t n u
+reads_spliced : (t u v : Tree) (n : ℕ) (before old after new : List ℕ) (s : IsSite t n) (m : IsNewNode t n u) → HasSameBrackets t n u → FitsAt t n u
     → text_before s.place ≡ before → text_of (enclosed t n s.inner) ≡ old
     → IsReading (tokens_of (before ++ (old ++ after))) t [] → IsReading (tokens_of new) u [] → IsSpliced t n u v
     → IsUtf8 before → IsUtf8 old → IsUtf8 after → IsUtf8 new
@@ -82,12 +82,12 @@ reads_spliced t u v n before old after new s m h fits start extent reading alone
     let r : SyntaxKind = (item t (n + (item t n).below)).kind in
     let a : List ℕ = text_at record { tree = t; number = n + 1 } in
     let b : List ℕ = text_at record { tree = t; number = n + (item t n).below } in
-    let law =
-    reparsed before old after new (parts_replaced before old after [] new [] ub uo ua IsUtf8-nil un IsUtf8-nil) (AreSound-tokens_under [] new un).joined in
+    let law = reparsed before old after new ub uo ua un in
     let root : u ≡ rooted (node k (enclosed t n m.edited) empty) =
     λ i. record { kind = root_kind (tokens_of new) u [] alone i; children = m.is i } in
     let edited : IsEdited before old after new s.place k l r a b s.inner m.edited = record {
-      brackets = h.brackets;
+      brackets = h.old.brackets;
+      same_brace = same_insides t n u s m h;
       start = start;
       extent = extent;
       reading = subst (λ z. IsReading (tokens_of (before ++ (old ++ after))) z []) s.is reading;
@@ -123,7 +123,7 @@ parsed_spliced t u v n text old new text_is old_is ut uo un some reading alone h
     ap (drop (item t n).end) (whole ∙ sym (append_assoc before own after))
     ∙ drop_at (before ++ own) after (item t n).end (omega (arith, cut.end, length-append before own)) in
     let apart = characters_apart before own after (subst IsUtf8 whole ut) (subst IsUtf8 same uo) (subst (λ z. 0 < length z) same some) in
-    let read = reads_spliced t u v n before own after new s (new_node t n u h) h.old fits refl refl
+    let read = reads_spliced t u v n before own after new s (new_node t n u h) h fits refl refl
     (subst (λ z. IsReading (tokens_of z) t []) whole reading) alone spliced apart.before (subst IsUtf8 same uo) apart.after un in
     let characters : IsUtf8 (before ++ (new ++ after)) = IsUtf8-append before (new ++ after) apart.before (IsUtf8-append new after un apart.after) in
     let edited : before ++ (new ++ after) ≡ take (item t n).start text ++ (new ++ drop (item t n).end text) =

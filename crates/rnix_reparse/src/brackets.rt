@@ -1,4 +1,4 @@
-//! Nodes that begin and end with brackets of their own.
+//! Nodes that end with a bracket of their own, and begin with one, or with `rec` or `let` before one.
 
 ghost use Rattle.std.specs.Prelude.{◌≡◌, ◌<◌, length, Some, IsTrue, IfSome};
 ghost use Rattle.rnix_green.specs.Tree.{items_of, item};
@@ -8,18 +8,19 @@ ghost use Rattle.rnix_reparse.specs.OwnBrackets.{IsTokenOf, HasBrackets};
 use rnix_green::GreenNode;
 use rnix_kinds::SyntaxKind;
 
-// Returns the kinds of the brackets that a node of a kind begins and ends with, if these are its own.
-fn brackets_of(kind: SyntaxKind) -> Option<(SyntaxKind, SyntaxKind)>
-    ensures { IfSome result (λ pair. IsBracketed kind pair.0 pair.1) }
+// Returns the kind of the nodes that begin with a token of a kind and end with a bracket of their own, and the kind of that bracket.
+fn bracketed_by(first: SyntaxKind) -> Option<(SyntaxKind, SyntaxKind)>
+    ensures { IfSome result (λ pair. IsBracketed pair.0 first pair.1) }
 {
-    match kind {
-        SyntaxKind::NODE_ATTR_SET => Some((SyntaxKind::TOKEN_L_BRACE, SyntaxKind::TOKEN_R_BRACE)),
-        SyntaxKind::NODE_LIST => Some((SyntaxKind::TOKEN_L_BRACK, SyntaxKind::TOKEN_R_BRACK)),
-        SyntaxKind::NODE_PAREN => Some((SyntaxKind::TOKEN_L_PAREN, SyntaxKind::TOKEN_R_PAREN)),
-        SyntaxKind::NODE_STRING => Some((
-            SyntaxKind::TOKEN_STRING_START,
-            SyntaxKind::TOKEN_STRING_END,
-        )),
+    match first {
+        SyntaxKind::TOKEN_L_BRACE => Some((SyntaxKind::NODE_ATTR_SET, SyntaxKind::TOKEN_R_BRACE)),
+        SyntaxKind::TOKEN_REC => Some((SyntaxKind::NODE_ATTR_SET, SyntaxKind::TOKEN_R_BRACE)),
+        SyntaxKind::TOKEN_LET => Some((SyntaxKind::NODE_LEGACY_LET, SyntaxKind::TOKEN_R_BRACE)),
+        SyntaxKind::TOKEN_L_BRACK => Some((SyntaxKind::NODE_LIST, SyntaxKind::TOKEN_R_BRACK)),
+        SyntaxKind::TOKEN_L_PAREN => Some((SyntaxKind::NODE_PAREN, SyntaxKind::TOKEN_R_PAREN)),
+        SyntaxKind::TOKEN_STRING_START => {
+            Some((SyntaxKind::NODE_STRING, SyntaxKind::TOKEN_STRING_END))
+        }
         _ => None,
     }
 }
@@ -51,7 +52,7 @@ fn is_child(green: &GreenNode, number: usize, parent: usize) -> bool
     }
 }
 
-/// Returns whether an element is a node that begins and ends with brackets of its own: a list, a set without `rec`, parentheses or a string.
+/// Returns whether an element is a list, a set, a `let { }`, parentheses or a string.
 pub(crate) fn has_brackets(green: &GreenNode, number: usize) -> bool
     requires { number < length (items_of green.now) }
     ensures { IsTrue result → HasBrackets green.now number }
@@ -60,10 +61,11 @@ pub(crate) fn has_brackets(green: &GreenNode, number: usize) -> bool
     if !element.is_node || element.below < 2 {
         return false;
     }
-    let last = number + element.below;
-    match brackets_of(element.kind) {
-        Some((opening, closing)) => {
-            is_token(green, number + 1, opening)
+    let (first, last) = (green.element(number + 1), number + element.below);
+    match bracketed_by(first.kind) {
+        Some((kind, closing)) => {
+            !first.is_node
+                && is_same_kind(element.kind, kind)
                 && is_token(green, last, closing)
                 && is_child(green, last, number)
         }

@@ -2,6 +2,7 @@
 #![tactic(auto)]
 
 mod brackets;
+mod comparing;
 mod editable;
 mod nesting;
 mod reparsing;

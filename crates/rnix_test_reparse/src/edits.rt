@@ -35,14 +35,45 @@ fn an_edit_inside_a_node_gives_the_parse_of_the_new_text(rt: HostRuntime) -> Res
 #[test]
 fn an_edit_of_other_nodes_gives_the_parse_of_the_new_text(rt: HostRuntime) -> Result<(), Fail> {
     let edits = [
-        ("rec { a = ", "1", "2", "; }"),
-        ("let { body = ", "1", "2", "; }"),
         ("\"${", "a", "b c", "}\""),
         ("let inherit (", "a", "b", ") c; in c"),
         ("({ a, b ? ", "1", "[ 2 ]", " }: a)"),
         ("a.", "b", "c", ".d"),
         ("./x/", "y", "${z}", "/w"),
         ("x: ", "x", "y", ""),
+    ];
+    assert!(rt; first_wrong(rt.alloc(), &edits)?.is_none());
+    Ok(())
+}
+
+#[test]
+fn an_edit_behind_rec_or_let_gives_the_parse_of_the_new_text(rt: HostRuntime) -> Result<(), Fail> {
+    let edits = [
+        ("rec { a = ", "1", "2", "; }"),
+        ("let { body = ", "1", "2", "; }"),
+        ("rec{ ", "a = 1;", "", " }"),
+        ("f rec # é\n /* c */ { ", "", "a = b;", " } x"),
+        ("(let /* c */ { ", "", "inherit x;", " body = x; })"),
+        ("rec { a = ", "1", "rec { b = \"${c}\"; }", "; }"),
+    ];
+    assert!(rt; first_wrong(rt.alloc(), &edits)?.is_none());
+    Ok(())
+}
+
+#[test]
+fn an_edit_before_the_brace_gives_the_parse_of_the_new_text(rt: HostRuntime) -> Result<(), Fail> {
+    let edits = [
+        ("", "rec", "", " { a = 1; }"),
+        ("", "", "rec ", "{ a = 1; }"),
+        ("re", "c", "", " { a = 1; }"),
+        ("rec", "", "x", " { a = 1; }"),
+        ("rec", " ", "/", " { a = 1; }"),
+        ("rec", " ", " # c\n", "{ a = 1; }"),
+        ("rec /* a", "", " */ /* b", " */ { a = 1; }"),
+        ("rec ", "", "{ } ", "{ a = 1; }"),
+        ("rec ", "{", "{ a = 1; } {", " }"),
+        ("", "let", "rec", " { body = 1; }"),
+        ("let ", "{", "a = 1; in {", " body = 1; }"),
     ];
     assert!(rt; first_wrong(rt.alloc(), &edits)?.is_none());
     Ok(())
