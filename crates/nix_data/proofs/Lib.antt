@@ -1,6 +1,9 @@
 pub mod DifferentNames
 pub mod MeaningLemmas
+pub mod ReadAlikeLemmas
+pub mod AddedLemmas
 pub mod WrittenLemmas
 pub mod UniqueLemmas
+pub mod AddedExamples
 pub mod MeaningExamples
 pub mod MisreadExamples

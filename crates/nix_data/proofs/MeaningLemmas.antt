@@ -1,16 +1,11 @@
 -- Parts that are concatenated one after the other, and nodes that mean values one after the other.
-use Rattle.std.proofs.Common.{◌≡◌, ◌∙◌, ℕ, suc, ◌+◌, ◌-◌, ◌<◌, ◌≤◌, true, false, arith, List, [], ◌∷◌, ◌++◌, length, get_or, drop, map, ap, sym, refl, subst, append_assoc, add-one, Option, Some, None}
-use Rattle.std.specs.Prelude.{option_map, String, string_bytes}
-use Rattle.std.proofs.Math.Seq.{drop-cons}
-use Rattle.std.proofs.lemmas.List.{append-nil, drop_all}
+use Rattle.std.proofs.Common.{◌≡◌, ◌∙◌, ℕ, suc, ◌+◌, ◌-◌, ◌<◌, true, false, arith, List, [], ◌∷◌, ◌++◌, ap, sym, refl, subst, append_assoc, None}
+use Rattle.std.proofs.lemmas.List.{append-nil}
 use Rattle.std.proofs.lemmas.Bool.{cond-true, cond-false}
 use Rattle.rnix_kinds.specs.declared.kinds.SyntaxKind.{SyntaxKind}
 use Rattle.rnix_kinds.specs.declared.kinds.SyntaxKind.TheVariants as k
 use Rattle.rnix_green.specs.Tree.{Located}
 use Rattle.rnix_green.specs.Walk.{nodes_in, children_of}
-use Rattle.rnix_base.specs.declared.parts.InterpolPart.{InterpolPart}
-use Rattle.rnix_base.specs.declared.parts.InterpolPart.TheVariants.{Literal, Interpolation}
-use Rattle.rnix_base.specs.Normal.{Parts, with_text}
 use Rattle.nix_values.specs.Contents.{Plain, has_parts, Entry}
 use Rattle.nix_data.specs.Meaning.{name_of_kind, unwrapped, parts_of, IsPart, HaveDifferentNames, MeansPart, Means, InOrder, IsHead, MeansFirst}
 use Rattle.nix_data.proofs.DifferentNames.{names_of_none}

@@ -1,4 +1,4 @@
--- Texts that mean data.
+-- Texts that mean data, and the data of a text.
 use Rattle.std.proofs.Common.{◌≡◌, ◌∙◌, ℕ, List, [], ◌∷◌, ◌++◌, length, map, ap, sym, refl, subst, arith, Option, Some}
 use Rattle.std.specs.Prelude.{IsSomeAnd}
 use Rattle.std.proofs.lemmas.List.{append-nil}
@@ -8,8 +8,9 @@ use Rattle.rnix_grammar.specs.Parsed.{IsParsed}
 use Rattle.rnix.specs.ParseResult.{Reading, root_of}
 use Rattle.nix_values.specs.Contents.{Entry}
 use Rattle.nix_data.specs.Meaning.{Means, MeansFirst}
-use Rattle.nix_data.specs.Written.{IsMeant, IsWritten}
-use Rattle.nix_data.specs.Misread.{IsReadAlike, IsData}
+use Rattle.nix_data.specs.Added.{HasData}
+use Rattle.nix_data.specs.Written.{IsMeant, IsWritten, IsData}
+use Rattle.nix_data.specs.Misread.{IsReadAlike}
 
 -- what has no elements has none that are mapped
 mapped_none : {X Y : Type 0} (f : X → Y) (xs : List X) → length xs ≡ 0 → map f xs ≡ []
@@ -35,8 +36,13 @@ written text read root entries parsed fine alike means = record {
   is_meant = subst (λ r. IsMeant r entries) fine.1 means;
 }
 
--- a text that is parsed without errors, as a tree that Nix reads alike
-pub alike : (text : List ℕ) (read : Reading) (root : Located) → IsParsed (tokens_of text) read.tree read.faults →
-    (read.faults ≡ []) × (root ≡ root_of read) → IsReadAlike root → IsData text
-alike text read root parsed fine is =
-    record { read = read; is_read = parsed; no_errors = fine.0; is_alike = subst IsReadAlike fine.1 is }
+-- a text that is parsed without errors, as a tree that Nix reads alike and that has these data
+pub data_alike : (text : List ℕ) (read : Reading) (root : Located) (entries : List Entry) → IsParsed (tokens_of text) read.tree read.faults →
+    (read.faults ≡ []) × (root ≡ root_of read) → IsReadAlike root → HasData root entries → IsData text entries
+data_alike text read root entries parsed fine alike has = record {
+  read = read;
+  is_read = parsed;
+  no_errors = fine.0;
+  is_alike = subst IsReadAlike fine.1 alike;
+  has_data = subst (λ r. HasData r entries) fine.1 has;
+}

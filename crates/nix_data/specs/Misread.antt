@@ -4,11 +4,8 @@ use Rattle.std.specs.List.{list_any, list_all}
 use Rattle.std.specs.Char.{is_ascii_digit}
 use Rattle.rnix_kinds.specs.declared.kinds.SyntaxKind.{SyntaxKind}
 use Rattle.rnix_kinds.specs.declared.kinds.SyntaxKind.TheVariants as k
-use Rattle.rnix_kinds.specs.Lexical.Tokens.{tokens_of}
 use Rattle.rnix_green.specs.Tree.{Located, item_of, text_at}
 use Rattle.rnix_green.specs.Walk.{Spot, elements_of}
-use Rattle.rnix_grammar.specs.Parsed.{IsParsed}
-use Rattle.rnix.specs.ParseResult.{Reading, root_of}
 
 -- Nix's white space: space, line feed, tab and carriage return
 abbrev pub is_blank : ℕ → Bool
@@ -45,10 +42,3 @@ is_misread_at spot = not spot.0 && is_misread (item_of spot.1).kind (text_at spo
 -- Nix reads no token of an element differently
 abbrev pub IsReadAlike : Located → Type 0
 IsReadAlike e = list_any is_misread_at (elements_of e) ≡ false
-
--- a text has no errors, and Nix reads none of its tokens differently
-pub record IsData (text : List ℕ) : Type 0 where
-  pub read : Reading
-  pub is_read : IsParsed (tokens_of text) read.tree read.faults
-  pub no_errors : read.faults ≡ []
-  pub is_alike : IsReadAlike (root_of read)

@@ -1,5 +1,5 @@
 -- The names of the entries of a set so far.
-use Rattle.std.specs.Prelude.{◌≡◌, ℕ, Bool, true, false, List, bytes_eq, String, if◌then◌else◌}
+use Rattle.std.specs.Prelude.{◌≡◌, ℕ, true, false, List, bytes_eq, String, if◌then◌else◌}
 use Rattle.std.specs.BTreeSet.{BTreeSet, contains_text}
 use Rattle.nix_values.specs.Contents.{Plain, set}
 

@@ -1,4 +1,4 @@
--- Texts that mean data.
+-- Texts that mean data, and the data of a text.
 use Rattle.std.specs.Prelude.{◌≡◌, ℕ, List, [], IsSomeAnd}
 use Rattle.rnix_kinds.specs.Lexical.Tokens.{tokens_of}
 use Rattle.rnix_green.specs.Tree.{Located}
@@ -9,6 +9,7 @@ use Rattle.rnix.specs.ParseResult.{Reading, root_of}
 use Rattle.nix_values.specs.Contents.{Entry}
 use Rattle.nix_data.specs.declared.nix_writer.TheConstants.{LEVELS}
 use Rattle.nix_data.specs.Meaning.{Means}
+use Rattle.nix_data.specs.Added.{HasData}
 use Rattle.nix_data.specs.Misread.{IsReadAlike}
 
 -- the expression of a tree means these values, which nest less than `LEVELS` deep
@@ -22,3 +23,11 @@ pub record IsWritten (text : List ℕ) (entries : List Entry) : Type 0 where
   pub no_errors : read.faults ≡ []
   pub is_alike : IsReadAlike (root_of read)
   pub is_meant : IsMeant (root_of read) entries
+
+-- a text has no errors, Nix reads none of its tokens differently, and these are its data
+pub record IsData (text : List ℕ) (entries : List Entry) : Type 0 where
+  pub read : Reading
+  pub is_read : IsParsed (tokens_of text) read.tree read.faults
+  pub no_errors : read.faults ≡ []
+  pub is_alike : IsReadAlike (root_of read)
+  pub has_data : HasData (root_of read) entries

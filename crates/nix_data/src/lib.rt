@@ -9,6 +9,7 @@ mod nix_reader;
 mod nix_writer;
 mod no_data;
 mod scalars;
+mod values;
 
 pub use laws::one_meaning;
 pub use nix_reader::{data_in, data_of};

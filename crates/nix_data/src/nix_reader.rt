@@ -1,216 +1,196 @@
 //! The data of a Nix text.
 
-ghost use Rattle.std.specs.Prelude.{◌≡◌, false, IfOk, OnOk};
+ghost use Rattle.std.specs.Prelude.{◌≡◌, false, true, Some, None, IfOk, OnOk, IfSome, string_bytes};
+ghost use Rattle.rnix_kinds.specs.declared.kinds.SyntaxKind.TheVariants as k;
 ghost use Rattle.rnix_green.specs.Tree.{item_of, text_at};
-ghost use Rattle.nix_data.specs.Misread.{is_misread, IsData, IsReadAlike};
+ghost use Rattle.rnix_base.specs.Select.{nodes_of};
+ghost use Rattle.rnix.specs.NodeKinds.{is_attr};
+ghost use Rattle.rnix.specs.Sums.{attr_node};
+ghost use Rattle.nix_values.specs.Contents.{plain_of, contents};
+ghost use Rattle.nix_data.specs.Added.{Place, path_in, scalar_begun, begun_as, begun, added, HasData};
+ghost use Rattle.nix_data.specs.Scalars.{scalar_of, key_of};
+ghost use Rattle.nix_data.specs.Misread.{is_misread, IsReadAlike};
+ghost use Rattle.nix_data.specs.Written.{IsData};
 
 use crate::misread::misread;
 use crate::no_data::{NoData, Reason};
-use crate::scalars::{Stop, no_data, scalar, string_value};
-use nix_values::{Builder, Data, Value};
-use rnix::ast::{AstNode, Attr, AttrSet, AttrpathValue, Dynamic, Expr, Inherit};
+use crate::scalars::{Stop, evaluated, key, no_data, scalar};
+use crate::values::{Entry, Frame, Name, Target, Values};
+use nix_values::{Data, Value};
+use rnix::ast::{AstNode, Attr, AttrSet, Attrpath, AttrpathValue, Inherit};
 use rnix::{NodeOrToken, Root, SyntaxKind, SyntaxNode, SyntaxToken, TextRange};
 use std::alloc::{AllocError, Global};
 
-// A list or a set whose values are being read.
+// The most levels of nodes that are read: more than the parser accepts, where a list or a set inside another is at most two levels below it.
+const LEVELS: usize = 2048;
+
+// How a text is read. If it is lossy, what is not data becomes its source.
 #[derive(Clone, Copy)]
-struct Frame {
-    // The number of its value.
-    node: usize,
-    // The end of its text.
-    end: usize,
-    // The number of values before its text. Values inside it with smaller numbers come from elsewhere in the text.
-    first: usize,
-}
-
-// The attribute that the next value belongs to.
-#[derive(Drop)]
-struct Entry {
-    set: usize,
-    name: String,
-    name_range: TextRange,
-}
-
-// The state of the reader.
-#[derive(Drop)]
-struct Reading {
+struct Reader {
     alloc: Global,
     is_lossy: bool,
-    builder: Builder,
-    // The range of each value's name, or of the value if it has no name.
-    name_ranges: Vec<TextRange>,
-    frames: Vec<Frame>,
-    entry: Option<Entry>,
-    // Nodes that begin before this offset are skipped.
-    skipped_to: usize,
 }
 
-// A name with its range.
-#[derive(Drop)]
-struct Name {
-    text: String,
-    name_range: TextRange,
+// Refuses a token that Nix reads otherwise.
+fn check(token: &SyntaxToken<'_>) -> Result<(), Stop>
+    ensures { OnOk result (is_misread (item_of token.now).kind (text_at token.now) ≡ false) }
+{
+    match misread(token) {
+        None => Ok(()),
+        Some(reason) => Err(Stop::NoData(reason)),
+    }
 }
 
-impl Reading {
-    // Returns a name; with `--lossy`, its source if the name cannot be read.
-    fn or_source(
-        &self,
-        node: &SyntaxNode<'_>,
-        outcome: Result<String, Stop>,
-    ) -> Result<String, Stop> {
-        match outcome {
-            Ok(text) => Ok(text),
-            Err(Stop::Memory) => Err(Stop::Memory),
-            Err(Stop::NoData(reason)) => {
-                if self.is_lossy {
-                    Ok(String::from_str(self.alloc, node.text())?)
-                } else {
-                    Err(Stop::NoData(reason))
-                }
-            }
+// Refuses a token inside a node that Nix reads otherwise.
+fn check_tokens(node: &SyntaxNode<'_>) -> Result<(), Stop>
+    ensures { OnOk result (IsReadAlike node.now) }
+{
+    for element in node.descendants_with_tokens() {
+        if let NodeOrToken::Token(token) = element {
+            check(&token)?;
+        }
+    }
+    Ok(())
+}
+
+impl Reader {
+    ghost use Rattle.nix_data.specs.Places.{IsAt, Leads, Begins, values_read};
+
+    // Returns the source of what is not data, if the text is read lossily.
+    fn source(&self, node: &SyntaxNode<'_>, stop: Stop) -> Result<String, Stop>
+        ensures { OnOk result (self.now.is_lossy ≡ true) }
+    {
+        match stop {
+            Stop::NoData(_) if self.is_lossy => Ok(String::from_str(self.alloc, node.text())?),
+            stop => Err(stop),
         }
     }
 
-    // Returns the text of a computed name, if it is a string and nothing else.
-    fn dynamic(&self, name: &Dynamic<'_>) -> Result<String, Stop> {
-        match name.expr() {
-            Some(Expr::Str(string)) if name.syntax().children().count() == 1 => {
-                string_value(self.alloc, &string)
-            }
-            _ => Err(no_data(
-                Reason::Evaluated(name.syntax().kind()),
-                name.syntax().text_range(),
-            )),
-        }
-    }
-
-    // Returns the text of a name.
-    fn name_text(&self, attr: &Attr<'_>) -> Result<String, Stop> {
-        match attr {
-            Attr::Ident(ident) => Ok(String::from_str(self.alloc, ident.syntax().text())?),
-            Attr::Dynamic(name) => self.dynamic(name),
-            Attr::Str(string) if string.syntax().text().starts_with('"') => {
-                string_value(self.alloc, string)
-            }
-            Attr::Str(string) => Err(no_data(Reason::IndentedName, string.syntax().text_range())),
-        }
-    }
-
-    // Returns a name with its range.
-    fn name(&self, attr: &Attr<'_>) -> Result<Name, Stop> {
-        Ok(Name {
-            text: self.or_source(attr.syntax(), self.name_text(attr))?,
-            name_range: attr.syntax().text_range(),
-        })
-    }
-
-    // Returns the error for an attribute that is defined twice.
-    fn repeated(&self, name_range: TextRange, first: usize) -> Stop {
-        Stop::NoData(NoData {
-            reason: Reason::Repeated,
-            range: name_range,
-            first: self.name_ranges.get(first).copied(),
-        })
-    }
-
-    // Adds a value to a list or a set, or as the outermost value.
-    fn push(
-        &mut self,
-        parent: Option<usize>,
-        name: String,
-        value: Value,
-        name_range: TextRange,
-    ) -> Result<usize, Stop> {
-        self.name_ranges.push(name_range)?;
-        Ok(self.builder.add(self.alloc, parent, name, value)?)
-    }
-
-    // Returns the set that is the value of an attribute, which is added if there is none. A set with a number below `first` comes from elsewhere in the text.
-    fn set_of(&mut self, set: usize, name: Name, first: usize) -> Result<usize, Stop> {
-        match self.builder.attribute(set, name.text.as_str()) {
-            Some(found) if found >= first && self.builder.is_set(found) => Ok(found),
-            Some(found) => Err(self.repeated(name.name_range, found)),
-            None => self.push(Some(set), name.text, Value::Set, name.name_range),
-        }
-    }
-
-    // Returns the innermost list or set, if there is one.
-    fn frame(&self) -> Option<Frame> {
-        self.frames.last().copied()
-    }
-
-    // Leaves the lists and sets that end at an offset or before.
-    fn leave(&mut self, offset: usize) {
-        for _frame in 0..self.frames.len() {
-            match self.frames.last() {
-                Some(frame) if frame.end <= offset => {
-                    let _remaining = self.frames.pop();
-                }
-                _ => break,
-            }
-        }
-    }
-
-    // Reads the path of an entry. Its value comes next.
-    fn enter_entry(&mut self, entry: &AttrpathValue<'_>) -> Result<(), Stop> {
-        let (Some(path), Some(frame)) = (entry.attrpath(), self.frame()) else {
-            return Ok(());
+    // Returns the name of an attribute.
+    fn name(&self, attr: &Attr<'_>) -> Result<Name, Stop>
+        ensures { IfOk result (λ name. self.now.is_lossy ≡ false → key_of (attr_node attr.now) ≡ Some (string_bytes name.text)) }
+    {
+        let node = attr.syntax();
+        let text = match key(self.alloc, node) {
+            Ok(text) => text,
+            Err(stop) => self.source(node, stop)?,
         };
-        self.skipped_to = path.syntax().text_range().end();
+        Ok(Name {
+            text,
+            range: node.text_range(),
+        })
+    }
+
+    // Returns the value of an expression that is neither a list nor a set.
+    fn value(&self, node: &SyntaxNode<'_>) -> Result<Value, Stop>
+        ensures { IfOk result (λ value. self.now.is_lossy ≡ false → scalar_of node.now ≡ Some (plain_of value)) }
+    {
+        match scalar(self.alloc, node) {
+            Ok(value) => Ok(value),
+            Err(stop) => Ok(Value::Text(self.source(node, stop)?)),
+        }
+    }
+
+    // Adds the value of an expression that is neither a list nor a set.
+    fn scalar(&self, values: &mut Values, target: Target, node: &SyntaxNode<'_>) -> Result<(), Stop>
+        ensures { OnOk result (self.now.is_lossy ≡ false → (place : Place) → IsAt target place →
+            scalar_begun place node.now (values_read values.old) ≡ Some (None, values_read values.new)) }
+    {
+        let value = self.value(node)?;
+        let _number = values.add(self.alloc, target, value, node.text_range())?;
+        Ok(())
+    }
+
+    // Adds a list. Returns the place of its items.
+    fn list(
+        &self,
+        values: &mut Values,
+        target: Target,
+        node: &SyntaxNode<'_>,
+    ) -> Result<Target, Stop>
+        ensures { IfOk result (λ next. Leads self.now.is_lossy target
+            (λ place. begun_as k.NODE_LIST place node.now (values_read values.old)) next (values_read values.new)) }
+    {
+        let number = values.add(self.alloc, target, Value::List, node.text_range())?;
+        Ok(Target::Inside(values.frame(number)))
+    }
+
+    // Adds a set with `rec`, which is not data.
+    fn recursive_set(
+        &self,
+        values: &mut Values,
+        target: Target,
+        node: &SyntaxNode<'_>,
+    ) -> Result<(), Stop>
+        ensures { OnOk result (self.now.is_lossy ≡ true) }
+    {
+        let range = node.text_range();
+        let source = self.source(node, no_data(Reason::Recursive, range))?;
+        let _number = values.add(self.alloc, target, Value::Text(source), range)?;
+        Ok(())
+    }
+
+    // Adds a set, unless it is there already.
+    fn set(
+        &self,
+        values: &mut Values,
+        target: Target,
+        node: &SyntaxNode<'_>,
+    ) -> Result<Option<Target>, Stop>
+        ensures { IfOk result (λ next. Begins self.now.is_lossy target
+            (λ place. begun_as k.NODE_ATTR_SET place node.now (values_read values.old)) next (values_read values.new)) }
+    {
+        let Some(set) = AttrSet::cast(node.clone()) else {
+            return Err(evaluated(node));
+        };
+        if set.rec_token().is_some() {
+            self.recursive_set(values, target, node)?;
+            return Ok(None);
+        }
+        let number = values.set_at(self.alloc, target, node.text_range())?;
+        Ok(Some(Target::Inside(values.frame(number))))
+    }
+
+    // Reads a path of an entry of a set, and adds the sets that it leads through. Returns the place of the entry's value.
+    fn path(&self, values: &mut Values, frame: Frame, path: &Attrpath<'_>) -> Result<Target, Stop>
+        ensures { IfOk result (λ target. self.now.is_lossy ≡ false →
+            (place : Place) × IsAt target place
+            × (path_in frame.node (nodes_of is_attr path.now) (values_read values.old) ≡ Some (place, values_read values.new))) }
+    {
         let (mut set, mut first) = (frame.node, frame.first);
         let mut last: Option<Name> = None;
         for attr in path.attrs() {
             let name = self.name(&attr)?;
             if let Some(before) = last {
-                set = self.set_of(set, before, first)?;
+                set = values.set_of(self.alloc, Entry { set, name: before }, first)?;
                 first = 0;
             }
             last = Some(name);
         }
-        let Some(name) = last else {
-            return Ok(());
+        match last {
+            Some(name) => values.attribute(Entry { set, name }, first),
+            None => Err(evaluated(path.syntax())),
+        }
+    }
+
+    // Reads the path of an entry. Returns the place of its value.
+    fn entry(
+        &self,
+        values: &mut Values,
+        target: Target,
+        node: &SyntaxNode<'_>,
+    ) -> Result<Target, Stop>
+        ensures { IfOk result (λ next. Leads self.now.is_lossy target
+            (λ place. begun_as k.NODE_ATTRPATH_VALUE place node.now (values_read values.old)) next (values_read values.new)) }
+    {
+        let (Some(entry), Target::Inside(frame)) = (AttrpathValue::cast(node.clone()), target)
+        else {
+            return Err(evaluated(node));
         };
-        if let Some(found) = self.builder.attribute(set, name.text.as_str()) {
-            if found < first || !self.builder.is_set(found) {
-                return Err(self.repeated(name.name_range, found));
-            }
+        match entry.attrpath() {
+            Some(path) => self.path(values, frame, &path),
+            None => Err(evaluated(node)),
         }
-        self.entry = Some(Entry {
-            set,
-            name: name.text,
-            name_range: name.name_range,
-        });
-        Ok(())
-    }
-
-    // Adds a value: to the entry whose path was read, to the innermost list, or as the outermost value.
-    fn add(&mut self, value: Value, range: TextRange) -> Result<usize, Stop> {
-        match self.entry.take() {
-            Some(entry) => match self.builder.attribute(entry.set, entry.name.as_str()) {
-                Some(found) if matches!(&value, Value::Set) && self.builder.is_set(found) => {
-                    Ok(found)
-                }
-                Some(found) => Err(self.repeated(entry.name_range, found)),
-                None => self.push(Some(entry.set), entry.name, value, entry.name_range),
-            },
-            None => {
-                let parent = self.frame().map(|frame| frame.node);
-                let name = String::new(self.alloc);
-                self.push(parent, name, value, range)
-            }
-        }
-    }
-
-    // Begins a list or a set.
-    fn open(&mut self, value: Value, range: TextRange) -> Result<(), Stop> {
-        let node = self.add(value, range)?;
-        self.frames.push(Frame {
-            node,
-            end: range.end(),
-            first: self.builder.len(),
-        })?;
-        Ok(())
     }
 
     // Returns the value of a name of an `inherit`: for the first one its source, for any other an `inherit` of that name, with `..` in place of what it
@@ -234,115 +214,99 @@ impl Reading {
         Ok(Value::Text(format!(in self.alloc; "inherit {from}{name};")?))
     }
 
-    // Reads an `inherit`. With `--lossy`, each of its names has a value.
-    fn enter_inherit(&mut self, inherit: &Inherit<'_>) -> Result<(), Stop> {
-        let range = inherit.syntax().text_range();
-        self.skipped_to = range.end();
-        let Some(frame) = self.frame() else {
-            return Ok(());
+    // Adds the names of an `inherit`, if the text is read lossily.
+    fn inherit(
+        &self,
+        values: &mut Values,
+        target: Target,
+        node: &SyntaxNode<'_>,
+    ) -> Result<(), Stop>
+        ensures { OnOk result (self.now.is_lossy ≡ true) }
+    {
+        let (Some(inherit), Target::Inside(frame)) = (Inherit::cast(node.clone()), target) else {
+            return Err(evaluated(node));
         };
         if !self.is_lossy {
-            return Err(no_data(Reason::Evaluated(inherit.syntax().kind()), range));
+            return Err(evaluated(node));
         }
         for (number, attr) in inherit.attrs().enumerate() {
             let name = self.name(&attr)?;
-            if let Some(found) = self.builder.attribute(frame.node, name.text.as_str()) {
-                return Err(self.repeated(name.name_range, found));
-            }
-            let value = self.inherited(inherit, &attr, number == 0)?;
-            let _number = self.push(Some(frame.node), name.text, value, name.name_range)?;
+            let value = self.inherited(&inherit, &attr, number == 0)?;
+            let entry = Entry {
+                set: frame.node,
+                name,
+            };
+            let _number = values.add_attribute(self.alloc, entry, value)?;
         }
         Ok(())
     }
 
-    // Reads a value other than a list or a set. With `--lossy`, what is not data becomes its source.
-    fn enter_scalar(
-        &mut self,
+    // Adds what a node adds itself. Returns where the nodes inside it add their values, unless they add none.
+    fn begin(
+        &self,
+        values: &mut Values,
+        target: Target,
         node: &SyntaxNode<'_>,
-        outcome: Result<Value, Stop>,
-    ) -> Result<(), Stop> {
-        let range = node.text_range();
-        self.skipped_to = range.end();
-        let value = match outcome {
-            Ok(value) => value,
-            Err(Stop::Memory) => return Err(Stop::Memory),
-            Err(Stop::NoData(reason)) => {
-                if !self.is_lossy {
-                    return Err(Stop::NoData(reason));
-                }
-                Value::Text(String::from_str(self.alloc, node.text())?)
-            }
-        };
-        let _number = self.add(value, range)?;
-        Ok(())
-    }
-
-    // Reads a set.
-    fn enter_set(&mut self, set: &AttrSet<'_>) -> Result<(), Stop> {
-        let range = set.syntax().text_range();
-        match set.rec_token() {
-            None => self.open(Value::Set, range),
-            Some(_) => self.enter_scalar(set.syntax(), Err(no_data(Reason::Recursive, range))),
-        }
-    }
-
-    // Reads a node. Its ancestors were read before.
-    fn enter(&mut self, node: &SyntaxNode<'_>) -> Result<(), Stop> {
-        let range = node.text_range();
-        if range.start() < self.skipped_to {
-            return Ok(());
-        }
-        self.leave(range.start());
+    ) -> Result<Option<Target>, Stop>
+        ensures begun { IfOk result (λ next. Begins self.now.is_lossy target
+            (λ place. begun place node.now (values_read values.old)) next (values_read values.new)) }
+        ensures node { IfOk result (λ next. IfSome next (λ target. is_misread (item_of node.now).kind (text_at node.now) ≡ false)) }
+    {
         match node.kind() {
-            SyntaxKind::NODE_ROOT | SyntaxKind::NODE_PAREN => Ok(()),
-            SyntaxKind::NODE_LIST => self.open(Value::List, range),
-            SyntaxKind::NODE_ATTR_SET => match AttrSet::cast(node.clone()) {
-                Some(set) => self.enter_set(&set),
-                None => Ok(()),
-            },
-            SyntaxKind::NODE_ATTRPATH_VALUE => match AttrpathValue::cast(node.clone()) {
-                Some(entry) => self.enter_entry(&entry),
-                None => Ok(()),
-            },
-            SyntaxKind::NODE_INHERIT => match Inherit::cast(node.clone()) {
-                Some(inherit) => self.enter_inherit(&inherit),
-                None => Ok(()),
-            },
-            _ => self.enter_scalar(node, scalar(self.alloc, node)),
+            SyntaxKind::NODE_ROOT | SyntaxKind::NODE_PAREN => Ok(Some(target)),
+            SyntaxKind::NODE_LIST => Ok(Some(self.list(values, target, node)?)),
+            SyntaxKind::NODE_ATTR_SET => self.set(values, target, node),
+            SyntaxKind::NODE_ATTRPATH_VALUE => Ok(Some(self.entry(values, target, node)?)),
+            SyntaxKind::NODE_ATTRPATH => Ok(None),
+            SyntaxKind::NODE_INHERIT => {
+                self.inherit(values, target, node)?;
+                Ok(None)
+            }
+            _ => {
+                self.scalar(values, target, node)?;
+                Ok(None)
+            }
         }
     }
-}
 
-// Refuses a token that Nix reads otherwise.
-fn check(token: &SyntaxToken<'_>) -> Result<(), Stop>
-    ensures { OnOk result (is_misread (item_of token.now).kind (text_at token.now) ≡ false) }
-{
-    match misread(token) {
-        None => Ok(()),
-        Some(reason) => Err(Stop::NoData(reason)),
+    // Adds the values of a node and of those inside it, which nest less than `levels` deep.
+    fn read(
+        &self,
+        values: &mut Values,
+        levels: usize,
+        target: Target,
+        node: &SyntaxNode<'_>,
+    ) -> Result<(), Stop>
+        ensures alike { OnOk result (IsReadAlike node.now) }
+        ensures added { OnOk result (self.now.is_lossy ≡ false →
+            (place : Place) → IsAt target place → added levels place node.now (values_read values.old) ≡ Some (values_read values.new)) }
+    {
+        if levels == 0 {
+            return Err(evaluated(node));
+        }
+        let Some(mut inside) = self.begin(values, target, node)? else {
+            return check_tokens(node);
+        };
+        for element in node.children_with_tokens() {
+            match element {
+                NodeOrToken::Token(token) => check(&token)?,
+                NodeOrToken::Node(child) => {
+                    self.read(values, levels - 1, inside.for_node(&child), &child)?
+                }
+            }
+        }
+        Ok(())
     }
 }
 
 // Reads the data of a tree without errors.
 fn read(alloc: Global, root: &SyntaxNode<'_>, is_lossy: bool) -> Result<Data, Stop>
-    ensures { OnOk result (IsReadAlike root.now) }
+    ensures alike { OnOk result (IsReadAlike root.now) }
+    ensures data { IfOk result (λ found. is_lossy ≡ false → HasData root.now (contents found)) }
 {
-    let mut reading = Reading {
-        alloc,
-        is_lossy,
-        builder: Builder::new(alloc),
-        name_ranges: Vec::new(alloc),
-        frames: Vec::new(alloc),
-        entry: None,
-        skipped_to: 0,
-    };
-    for element in root.descendants_with_tokens() {
-        match element {
-            NodeOrToken::Node(node) => reading.enter(&node)?,
-            NodeOrToken::Token(token) => check(&token)?,
-        }
-    }
-    Ok(reading.builder.finish(alloc)?)
+    let mut values = Values::new(alloc);
+    Reader { alloc, is_lossy }.read(&mut values, LEVELS, Target::Outermost, root)?;
+    Ok(values.finish(alloc)?)
 }
 
 /// Returns the data of a tree without errors, or the first part that is not data. If `is_lossy`, such a part becomes a string with its source, but
@@ -352,7 +316,8 @@ pub fn data_in(
     root: &SyntaxNode<'_>,
     is_lossy: bool,
 ) -> Result<Result<Data, NoData>, AllocError>
-    ensures { IfOk result (λ outcome. OnOk outcome (IsReadAlike root.now)) }
+    ensures alike { IfOk result (λ outcome. OnOk outcome (IsReadAlike root.now)) }
+    ensures data { IfOk result (λ outcome. IfOk outcome (λ found. is_lossy ≡ false → HasData root.now (contents found))) }
 {
     match read(alloc, root, is_lossy) {
         Ok(found) => Ok(Ok(found)),
@@ -362,9 +327,9 @@ pub fn data_in(
 }
 
 /// Returns the data of a Nix text, or the first part that is not data.
-#[tactic(auto, using(crate::proofs::WrittenLemmas::alike))]
+#[tactic(auto, using(crate::proofs::WrittenLemmas::data_alike))]
 pub fn data_of(alloc: Global, text: &str) -> Result<Result<Data, NoData>, AllocError>
-    ensures { IfOk result (λ outcome. OnOk outcome (IsData text.now)) }
+    ensures { IfOk result (λ outcome. IfOk outcome (λ found. IsData text.now (contents found))) }
 {
     let parse = Root::parse(alloc, text)?;
     match parse.ok() {

@@ -1,9 +1,21 @@
-//! Values other than lists and sets.
+//! Values other than lists and sets, and the names of attributes.
 
+ghost use Rattle.std.specs.Prelude.{◌≡◌, Some, option_and_then, IfOk, string_bytes};
+ghost use Rattle.rnix_green.specs.Tree.{item_of, text_at};
+ghost use Rattle.rnix_green.specs.Walk.{nodes_in, children_of};
+ghost use Rattle.rnix_base.specs.declared.literal.LiteralKind.TheVariants as literal;
+ghost use Rattle.rnix_base.specs.Literal.{first_literal};
+ghost use Rattle.rnix_base.specs.Select.{child_of};
+ghost use Rattle.rnix.specs.NodeKinds.{is_expr};
+ghost use Rattle.nix_values.specs.Contents.{plain_of};
+ghost use Rattle.nix_data.specs.Meaning.{expression_text};
+ghost use Rattle.nix_data.specs.Scalars.{named, integer_of, literal_value, negated_of_kind, operation_of, path_value, scalar_of, key_of};
+
+use crate::misread::is_altered;
 use crate::no_data::{NoData, Reason};
 use nix_values::{Value, float_of};
 use rnix::ast::{
-    AstNode, AstToken, Expr, Float, Integer, InterpolPart, Literal, LiteralKind, Str, UnaryOp,
+    AstNode, AstToken, Dynamic, Float, Integer, InterpolPart, Literal, LiteralKind, Str, UnaryOp,
     UnaryOpKind, Uri,
 };
 use rnix::{SyntaxKind, SyntaxNode, TextRange};
@@ -39,6 +51,11 @@ pub fn no_data(reason: Reason, range: TextRange) -> Stop {
     })
 }
 
+/// Returns the error for a node that Nix must evaluate.
+pub fn evaluated(node: &SyntaxNode<'_>) -> Stop {
+    no_data(Reason::Evaluated(node.kind()), node.text_range())
+}
+
 // Returns the range of the first interpolation of a string, or else of the string.
 fn interpolation(string: &Str<'_>) -> TextRange {
     for part in string.parts() {
@@ -49,38 +66,56 @@ fn interpolation(string: &Str<'_>) -> TextRange {
     string.syntax().text_range()
 }
 
-/// Returns the value of a string.
-pub fn string_value(alloc: Global, string: &Str<'_>) -> Result<String, Stop> {
-    let (source, range) = (string.syntax().text(), string.syntax().text_range());
+// Returns the error for a string that Nix changes.
+fn altered(node: &SyntaxNode<'_>) -> Stop {
+    let reason = if node.text().contains('\0') {
+        Reason::HasNul
+    } else {
+        Reason::HasReturn
+    };
+    no_data(reason, node.text_range())
+}
+
+// Returns the value of a string.
+fn string_value(alloc: Global, node: &SyntaxNode<'_>) -> Result<String, Stop>
+    ensures { IfOk result (λ text. expression_text node.now ≡ Some (string_bytes text)) }
+{
+    let Some(string) = Str::cast(node.clone()) else {
+        return Err(evaluated(node));
+    };
     let Some(text) = string.plain_value(alloc)? else {
         return Err(no_data(
             Reason::Evaluated(SyntaxKind::NODE_INTERPOL),
-            interpolation(string),
+            interpolation(&string),
         ));
     };
-    if text.contains('\0') {
-        return Err(no_data(Reason::HasNul, range));
-    }
-    if source.starts_with('"') && source.contains('\r') {
-        return Err(no_data(Reason::HasReturn, range));
+    if is_altered(node.text()) {
+        return Err(altered(node));
     }
     Ok(text)
 }
 
 // Returns the value of an integer, negated or not.
-fn integer(number: &Integer<'_>, is_negative: bool) -> Result<Value, Stop> {
-    match number.value() {
-        Ok(number) => Ok(Value::Integer(if is_negative {
-            number.saturating_neg()
-        } else {
-            number
-        })),
-        Err(_) => Err(no_data(Reason::TooLarge, number.syntax().text_range())),
+fn integer(number: &Integer<'_>, is_negative: bool) -> Result<Value, Stop>
+    ensures { IfOk result (λ value. integer_of is_negative (text_at number.now) ≡ plain_of value) }
+{
+    let too_large = no_data(Reason::TooLarge, number.syntax().text_range());
+    let Ok(value) = number.value() else {
+        return Err(too_large);
+    };
+    if !is_negative {
+        return Ok(Value::Integer(value));
+    }
+    match value.checked_neg() {
+        Some(negated) => Ok(Value::Integer(negated)),
+        None => Err(too_large),
     }
 }
 
 // Returns the value of a float, negated or not.
-fn float(alloc: Global, number: &Float<'_>, is_negative: bool) -> Result<Value, Stop> {
+fn float(alloc: Global, number: &Float<'_>, is_negative: bool) -> Result<Value, Stop>
+    ensures { IfOk result (λ value. literal_value is_negative (Some (literal.Float number.now)) ≡ Some (plain_of value)) }
+{
     let sign = if is_negative { "-" } else { "" };
     let digits = number.syntax().text();
     let signed = format!(in alloc; "{sign}{digits}")?;
@@ -91,7 +126,9 @@ fn float(alloc: Global, number: &Float<'_>, is_negative: bool) -> Result<Value, 
 }
 
 // Returns the value of a URI: its text. It cannot be negated.
-fn uri(alloc: Global, address: &Uri<'_>, is_negative: bool) -> Result<Value, Stop> {
+fn uri(alloc: Global, address: &Uri<'_>, is_negative: bool) -> Result<Value, Stop>
+    ensures { IfOk result (λ value. literal_value is_negative (Some (literal.Uri address.now)) ≡ Some (plain_of value)) }
+{
     if is_negative {
         return Err(no_data(
             Reason::Evaluated(SyntaxKind::NODE_UNARY_OP),
@@ -102,55 +139,109 @@ fn uri(alloc: Global, address: &Uri<'_>, is_negative: bool) -> Result<Value, Sto
 }
 
 // Returns the value of a number or a URI, negated or not.
-fn literal(alloc: Global, literal: &Literal<'_>, is_negative: bool) -> Result<Value, Stop> {
+fn literal(alloc: Global, node: &SyntaxNode<'_>, is_negative: bool) -> Result<Value, Stop>
+    ensures { IfOk result (λ value. literal_value is_negative (first_literal node.now) ≡ Some (plain_of value)) }
+{
+    let Some(literal) = Literal::cast(node.clone()) else {
+        return Err(evaluated(node));
+    };
     match literal.kind() {
         Some(LiteralKind::Integer(number)) => integer(&number, is_negative),
         Some(LiteralKind::Float(number)) => float(alloc, &number, is_negative),
         Some(LiteralKind::Uri(address)) => uri(alloc, &address, is_negative),
-        None => Err(no_data(
-            Reason::Evaluated(SyntaxKind::NODE_LITERAL),
-            literal.syntax().text_range(),
-        )),
+        None => Err(evaluated(node)),
+    }
+}
+
+// Returns the value of an operand that is negated: a number.
+fn negated(
+    alloc: Global,
+    operation: &SyntaxNode<'_>,
+    operand: &SyntaxNode<'_>,
+) -> Result<Value, Stop>
+    ensures { IfOk result (λ value. negated_of_kind (item_of operand.now).kind operand.now ≡ Some (plain_of value)) }
+{
+    match operand.kind() {
+        SyntaxKind::NODE_LITERAL => literal(alloc, operand, true),
+        _ => Err(evaluated(operation)),
     }
 }
 
 // Returns the value of a prefix operation: a negative number.
-fn negative(alloc: Global, operation: &UnaryOp<'_>) -> Result<Value, Stop> {
+fn negative(alloc: Global, node: &SyntaxNode<'_>) -> Result<Value, Stop>
+    ensures { IfOk result (λ value. operation_of node.now ≡ Some (plain_of value)) }
+{
+    let Some(operation) = UnaryOp::cast(node.clone()) else {
+        return Err(evaluated(node));
+    };
     match (operation.operator(), operation.expr()) {
-        (Some(UnaryOpKind::Negate), Some(Expr::Literal(number))) => literal(alloc, &number, true),
-        _ => Err(no_data(
-            Reason::Evaluated(SyntaxKind::NODE_UNARY_OP),
-            operation.syntax().text_range(),
-        )),
+        (Some(UnaryOpKind::Negate), Some(operand)) => negated(alloc, node, operand.syntax()),
+        _ => Err(evaluated(node)),
     }
 }
 
 // Returns the value of an identifier: `null`, `true` or `false`.
-fn named(node: &SyntaxNode<'_>) -> Result<Value, Stop> {
+fn named(node: &SyntaxNode<'_>) -> Result<Value, Stop>
+    ensures { IfOk result (λ value. named (text_at node.now) ≡ Some (plain_of value)) }
+{
     match node.text() {
         "null" => Ok(Value::Null),
         "true" => Ok(Value::Bool(true)),
         "false" => Ok(Value::Bool(false)),
-        _ => Err(no_data(Reason::Evaluated(node.kind()), node.text_range())),
+        _ => Err(evaluated(node)),
     }
 }
 
 // Returns the value of a path: its text, if it has no interpolation.
-fn path(alloc: Global, node: &SyntaxNode<'_>) -> Result<Value, Stop> {
-    match node.first_child() {
-        Some(inside) => Err(no_data(Reason::Evaluated(inside.kind()), inside.text_range())),
+fn path(alloc: Global, node: &SyntaxNode<'_>) -> Result<Value, Stop>
+    ensures { IfOk result (λ value. path_value (nodes_in (children_of node.now)) (text_at node.now) ≡ Some (plain_of value)) }
+{
+    match node.children().next() {
+        Some(inside) => Err(evaluated(&inside)),
         None => Ok(Value::Text(String::from_str(alloc, node.text())?)),
     }
 }
 
 /// Returns the value of an expression that is neither a list nor a set.
-pub fn scalar<'t>(alloc: Global, node: &SyntaxNode<'t>) -> Result<Value, Stop> {
-    match Expr::cast(node.clone()) {
-        Some(Expr::Str(string)) => Ok(Value::Text(string_value(alloc, &string)?)),
-        Some(Expr::Literal(number)) => literal(alloc, &number, false),
-        Some(Expr::UnaryOp(operation)) => negative(alloc, &operation),
-        Some(Expr::Ident(_)) => named(node),
-        Some(Expr::PathAbs(_) | Expr::PathRel(_) | Expr::PathHome(_)) => path(alloc, node),
-        _ => Err(no_data(Reason::Evaluated(node.kind()), node.text_range())),
+pub fn scalar(alloc: Global, node: &SyntaxNode<'_>) -> Result<Value, Stop>
+    ensures { IfOk result (λ value. scalar_of node.now ≡ Some (plain_of value)) }
+{
+    match node.kind() {
+        SyntaxKind::NODE_STRING => Ok(Value::Text(string_value(alloc, node)?)),
+        SyntaxKind::NODE_LITERAL => literal(alloc, node, false),
+        SyntaxKind::NODE_UNARY_OP => negative(alloc, node),
+        SyntaxKind::NODE_IDENT => named(node),
+        SyntaxKind::NODE_PATH_ABS | SyntaxKind::NODE_PATH_REL | SyntaxKind::NODE_PATH_HOME => {
+            path(alloc, node)
+        }
+        _ => Err(evaluated(node)),
+    }
+}
+
+// Returns the text of a computed name, if it is a string and nothing else.
+fn dynamic(alloc: Global, node: &SyntaxNode<'_>) -> Result<String, Stop>
+    ensures { IfOk result (λ text. option_and_then expression_text (child_of is_expr 0 node.now) ≡ Some (string_bytes text)) }
+{
+    let Some(name) = Dynamic::cast(node.clone()) else {
+        return Err(evaluated(node));
+    };
+    match name.expr() {
+        Some(string)
+            if string.syntax().kind() == SyntaxKind::NODE_STRING && node.children().count() == 1 =>
+            { string_value(alloc, string.syntax()) }
+        _ => Err(evaluated(node)),
+    }
+}
+
+/// Returns the name that an attribute of a path writes.
+pub fn key(alloc: Global, node: &SyntaxNode<'_>) -> Result<String, Stop>
+    ensures { IfOk result (λ text. key_of node.now ≡ Some (string_bytes text)) }
+{
+    match node.kind() {
+        SyntaxKind::NODE_IDENT => Ok(String::from_str(alloc, node.text())?),
+        SyntaxKind::NODE_DYNAMIC => dynamic(alloc, node),
+        SyntaxKind::NODE_STRING if node.text().starts_with('"') => string_value(alloc, node),
+        SyntaxKind::NODE_STRING => Err(no_data(Reason::IndentedName, node.text_range())),
+        _ => Err(evaluated(node)),
     }
 }

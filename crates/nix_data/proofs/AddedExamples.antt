@@ -1,0 +1,94 @@
+-- The values of certain texts, by computation.
+use Rattle.std.proofs.Common.{◌≡◌, ℕ, pos, neg_ℤ, List, [], ◌∷◌, Some, None, refl, codes}
+use Rattle.rnix_kinds.specs.declared.kinds.SyntaxKind.TheVariants as k
+use Rattle.rnix_green.specs.Forest.{Forest, empty, leaf, node}
+use Rattle.rnix_green.specs.Tree.{Located}
+use Rattle.nix_values.specs.Contents.{Plain, null, integer, list, set, Entry}
+use Rattle.nix_values.specs.Built.{Built}
+use Rattle.nix_values.specs.Preorder.{descendants}
+use Rattle.nix_data.specs.Added.{added, values_of, HasData}
+
+-- the tree of a text with an expression
+abbrev root : (Forest → Forest) → Located
+root expression = record { tree = record { kind = k.NODE_ROOT; children = expression empty }; number = 0 }
+
+-- an identifier, an integer, a negative one, and an expression in parentheses
+abbrev ident : List ℕ → Forest → Forest
+ident name f = node k.NODE_IDENT (leaf k.TOKEN_IDENT name empty) f
+
+abbrev number : List ℕ → Forest → Forest
+number digits f = node k.NODE_LITERAL (leaf k.TOKEN_INTEGER digits empty) f
+
+abbrev negative : List ℕ → Forest → Forest
+negative digits f = node k.NODE_UNARY_OP (leaf k.TOKEN_SUB (codes "-") (number digits empty)) f
+
+abbrev in_parens : (Forest → Forest) → Forest → Forest
+in_parens inner f = node k.NODE_PAREN (leaf k.TOKEN_L_PAREN (codes "(") (inner (leaf k.TOKEN_R_PAREN (codes ")") empty))) f
+
+-- a list, a set, and an entry of a set
+abbrev a_list : (Forest → Forest) → Forest → Forest
+a_list items f = node k.NODE_LIST (leaf k.TOKEN_L_BRACK (codes "[") (items (leaf k.TOKEN_R_BRACK (codes "]") empty))) f
+
+abbrev a_set : (Forest → Forest) → Forest → Forest
+a_set entries f = node k.NODE_ATTR_SET (leaf k.TOKEN_L_BRACE (codes "{") (entries (leaf k.TOKEN_R_BRACE (codes "}") empty))) f
+
+abbrev entry : Forest → (Forest → Forest) → Forest → Forest
+entry path value f = node k.NODE_ATTRPATH_VALUE (node k.NODE_ATTRPATH path
+    (leaf k.TOKEN_ASSIGN (codes "=") (value (leaf k.TOKEN_SEMICOLON (codes ";") empty)))) f
+
+abbrev one : List ℕ → Forest
+one name = ident name empty
+
+abbrev two : List ℕ → List ℕ → Forest
+two first second = ident first (leaf k.TOKEN_DOT (codes ".") (ident second empty))
+
+-- a value outside all others, and one inside another
+abbrev outer : Plain → Built
+outer plain = record { parent = None; name = []; plain = plain }
+
+abbrev within : ℕ → List ℕ → Plain → Built
+within parent name plain = record { parent = Some parent; name = name; plain = plain }
+
+abbrev at : ℕ → List ℕ → Plain → Entry
+at depth name plain = record { depth = depth; name = name; plain = plain }
+
+-- {a.b=1;a.c=2;}
+merged_paths : values_of (root (a_set (λ f. entry (two (codes "a") (codes "b")) (number (codes "1")) (entry (two (codes "a") (codes "c"))
+    (number (codes "2")) f))))
+    ≡ Some (outer set ∷ within 0 (codes "a") set ∷ within 1 (codes "b") (integer (pos 1)) ∷ within 1 (codes "c") (integer (pos 2)) ∷ [])
+unfolding added
+merged_paths = refl
+
+-- {a={b=1;};a.c=2;}: the same values
+merged_set : values_of (root (a_set (λ f. entry (one (codes "a")) (a_set (entry (one (codes "b")) (number (codes "1")))) (entry (two (codes "a") (codes "c"))
+    (number (codes "2")) f))))
+    ≡ Some (outer set ∷ within 0 (codes "a") set ∷ within 1 (codes "b") (integer (pos 1)) ∷ within 1 (codes "c") (integer (pos 2)) ∷ [])
+unfolding added
+merged_set = refl
+
+-- {a.b=1;c=2;a.d=3;}: the data have `d` after `b`
+together : HasData (root (a_set (λ f. entry (two (codes "a") (codes "b")) (number (codes "1")) (entry (one (codes "c")) (number (codes "2"))
+    (entry (two (codes "a") (codes "d")) (number (codes "3")) f)))))
+    (at 0 [] set ∷ at 1 (codes "a") set ∷ at 2 (codes "b") (integer (pos 1)) ∷ at 2 (codes "d") (integer (pos 3)) ∷ at 1 (codes "c") (integer (pos 2)) ∷ [])
+unfolding added descendants
+together = refl
+
+-- {a=1;a=2;} and {a=1;a.b=2;} have no data
+defined_twice : values_of (root (a_set (λ f. entry (one (codes "a")) (number (codes "1")) (entry (one (codes "a")) (number (codes "2")) f)))) ≡ None
+unfolding added
+defined_twice = refl
+
+no_set : values_of (root (a_set (λ f. entry (one (codes "a")) (number (codes "1")) (entry (two (codes "a") (codes "b")) (number (codes "2")) f)))) ≡ None
+unfolding added
+no_set = refl
+
+-- [null(-12)]
+items : values_of (root (a_list (λ f. ident (codes "null") (in_parens (negative (codes "12")) f))))
+    ≡ Some (outer list ∷ within 0 [] null ∷ within 0 [] (integer (neg_ℤ (pos 12))) ∷ [])
+unfolding added
+items = refl
+
+-- [x]: a name is no data
+no_name : values_of (root (a_list (ident (codes "x")))) ≡ None
+unfolding added
+no_name = refl

@@ -1,0 +1,211 @@
+//! The values of a text that is being read, and where the next one is added.
+
+ghost use Rattle.std.specs.Prelude.{◌≡◌, ℕ, Some, None, [], length, is_some, IfOk, string_bytes};
+ghost use Rattle.nix_values.specs.Contents.{contents, plain_of, set};
+ghost use Rattle.nix_values.specs.Built.{attribute_of};
+ghost use Rattle.nix_values.specs.Preorder.{preorder};
+ghost use Rattle.nix_values.specs.Building.{IsAddedLast};
+ghost use Rattle.nix_data.specs.Added.{Place, attribute, value_added, set_at};
+
+use crate::no_data::{NoData, Reason};
+use crate::scalars::{Stop, no_data};
+use nix_values::{Builder, Data, Value};
+use rnix::{SyntaxKind, SyntaxNode, TextRange};
+use std::alloc::{AllocError, Global};
+use std::mem;
+
+/// A list or a set whose values are being read.
+#[derive(Clone, Copy)]
+pub struct Frame {
+    /// The number of its value.
+    pub node: usize,
+    /// The number of values before its text. Values inside it with smaller numbers come from elsewhere in the text.
+    pub first: usize,
+}
+
+/// A name with its range.
+#[derive(Drop)]
+pub struct Name {
+    /// The name.
+    pub text: String,
+    /// Its range.
+    pub range: TextRange,
+}
+
+/// An attribute of a set.
+#[derive(Drop)]
+pub struct Entry {
+    /// The number of the set.
+    pub set: usize,
+    /// Its name.
+    pub name: Name,
+}
+
+/// Where the next value is added.
+#[derive(Drop)]
+pub enum Target {
+    /// As the outermost value.
+    Outermost,
+    /// Inside a list, or among the entries of a set.
+    Inside(Frame),
+    /// As an attribute.
+    Attribute(Entry),
+    /// Nowhere: the one value that had this place was added.
+    Nowhere,
+}
+
+impl Target {
+    ghost use Rattle.nix_data.specs.Places.{IsAt};
+
+    /// Returns the place of the next node. The path of an entry has none, and only lists and sets have places for several nodes.
+    pub fn for_node(&mut self, node: &SyntaxNode<'_>) -> Target
+        ensures { (place : Place) → IsAt self.old place → IsAt result place × IsAt self.new place }
+    {
+        if node.kind() == SyntaxKind::NODE_ATTRPATH {
+            return Target::Nowhere;
+        }
+        match self {
+            Target::Inside(frame) => Target::Inside(*frame),
+            _ => mem::replace(self, Target::Nowhere),
+        }
+    }
+}
+
+/// The values of a text that is being read.
+#[derive(Drop)]
+pub struct Values {
+    builder: Builder,
+    // The range of each value's name, or of the value if it has no name.
+    name_ranges: Vec<TextRange>,
+}
+
+impl Values {
+    ghost use Rattle.nix_data.specs.Places.{IsAt, values_read};
+
+    /// Returns no values.
+    pub fn new(alloc: Global) -> Values
+        ensures { values_read result ≡ [] }
+    {
+        Values {
+            builder: Builder::new(alloc),
+            name_ranges: Vec::new(alloc),
+        }
+    }
+
+    /// Returns the list or the set with a number, whose text begins.
+    pub fn frame(&self, node: usize) -> Frame
+        ensures { result.node ≡ node }
+    {
+        Frame {
+            node,
+            first: self.builder.len(),
+        }
+    }
+
+    // Returns the error for an attribute that is defined twice.
+    fn repeated(&self, range: TextRange, first: usize) -> Stop {
+        Stop::NoData(NoData {
+            reason: Reason::Repeated,
+            range,
+            first: self.name_ranges.get(first).copied(),
+        })
+    }
+
+    // Adds a value to a list or a set, or as the outermost value.
+    fn push(
+        &mut self,
+        alloc: Global,
+        parent: Option<usize>,
+        name: String,
+        value: Value,
+        range: TextRange,
+    ) -> Result<usize, Stop>
+        ensures { IfOk result (λ number. IsAddedLast self.old.builder number parent (string_bytes name) (plain_of value) self.new.builder) }
+    {
+        self.name_ranges.push(range)?;
+        Ok(self.builder.add(alloc, parent, name, value)?)
+    }
+
+    /// Adds an attribute, which the set may not have yet.
+    pub fn add_attribute(
+        &mut self,
+        alloc: Global,
+        entry: Entry,
+        value: Value,
+    ) -> Result<usize, Stop>
+        ensures number { IfOk result (λ number. number ≡ length (values_read self.old)) }
+        ensures added { IfOk result (λ number.
+            value_added (attribute entry.set (string_bytes entry.name.text)) (plain_of value) (values_read self.old) ≡ Some (values_read self.new)) }
+    {
+        let Entry { set, name } = entry;
+        match self.builder.attribute(set, name.text.as_str()) {
+            Some(found) => Err(self.repeated(name.range, found)),
+            None => self.push(alloc, Some(set), name.text, value, name.range),
+        }
+    }
+
+    /// Adds a value at a place; one without a name has this range.
+    pub fn add(
+        &mut self,
+        alloc: Global,
+        target: Target,
+        value: Value,
+        range: TextRange,
+    ) -> Result<usize, Stop>
+        ensures number { IfOk result (λ number. number ≡ length (values_read self.old)) }
+        ensures added { IfOk result (λ number. (place : Place) → IsAt target place →
+            value_added place (plain_of value) (values_read self.old) ≡ Some (values_read self.new)) }
+    {
+        match target {
+            Target::Outermost => self.push(alloc, None, String::new(alloc), value, range),
+            Target::Inside(frame) => {
+                self.push(alloc, Some(frame.node), String::new(alloc), value, range)
+            }
+            Target::Attribute(entry) => self.add_attribute(alloc, entry, value),
+            Target::Nowhere => Err(no_data(Reason::Repeated, range)),
+        }
+    }
+
+    /// Returns the set that is an attribute, which is added if there is none. A set with a number below `first` comes from elsewhere in the text.
+    pub fn set_of(&mut self, alloc: Global, entry: Entry, first: usize) -> Result<usize, Stop>
+        ensures { IfOk result (λ number.
+            set_at (attribute entry.set (string_bytes entry.name.text)) (values_read self.old) ≡ Some (number, values_read self.new)) }
+    {
+        let Entry { set, name } = entry;
+        match self.builder.attribute(set, name.text.as_str()) {
+            Some(found) if found >= first && self.builder.is_set(found) => Ok(found),
+            Some(found) => Err(self.repeated(name.range, found)),
+            None => self.push(alloc, Some(set), name.text, Value::Set, name.range),
+        }
+    }
+
+    /// Returns the set at a place, which is added if there is none.
+    pub fn set_at(&mut self, alloc: Global, target: Target, range: TextRange) -> Result<usize, Stop>
+        ensures { IfOk result (λ number. (place : Place) → IsAt target place → set_at place (values_read self.old) ≡ Some (number, values_read self.new)) }
+    {
+        match target {
+            Target::Attribute(entry) => self.set_of(alloc, entry, 0),
+            other => self.add(alloc, other, Value::Set, range),
+        }
+    }
+
+    /// Returns the place of an attribute that is not there yet, or is a set. A set with a number below `first` comes from elsewhere in the text.
+    pub fn attribute(&self, entry: Entry, first: usize) -> Result<Target, Stop>
+        ensures { IfOk result (λ target. IsAt target (attribute entry.set (string_bytes entry.name.text))) }
+    {
+        if let Some(found) = self.builder.attribute(entry.set, entry.name.text.as_str()) {
+            if found < first || !self.builder.is_set(found) {
+                return Err(self.repeated(entry.name.range, found));
+            }
+        }
+        Ok(Target::Attribute(entry))
+    }
+
+    /// Returns the data that the values are.
+    pub fn finish(self, alloc: Global) -> Result<Data, AllocError>
+        ensures { IfOk result (λ found. contents found ≡ preorder (values_read self)) }
+    {
+        let Values { builder, .. } = self;
+        builder.finish(alloc)
+    }
+}
