@@ -1,4 +1,4 @@
--- What is printed of files, and counted.
+-- The output for files, and the counts.
 use Rattle.std.proofs.Common.{◌≡◌, ◌∙◌, ℕ, ◌+◌, ◌<◌, List, [], ◌∷◌, ◌++◌, length, map, take, get_or, Option, sym, subst, inl, inr}
 use Rattle.std.proofs.KnownBytes.{Appends-nil, Appends-kept, Appends-trans, Keeps-trans}
 use Rattle.std.specs.{Prelude.{string_bytes, String}, Io.KnownBytes.{Appends, Keeps}, declared.alloc.Global.Global}
@@ -6,7 +6,7 @@ use Rattle.nix_cli.{specs.MessageLocations.display_name, proofs.ProcessedLemmas.
 use Rattle.nix_check.specs.declared.{report.Tally.Tally, style.Style.Style}
 use Rattle.nix_check.specs.{Printed.IsChecked, ErrorReport.{IsTextCounted, IsFileCounted, AreChecked, one_checked}}
 
--- a text is checked after known bytes were kept
+-- checking a text, after calls that change no output
 pub checked_after : (style : Style) (name text : List ℕ) (earlier : ℕ) (old mid new : Option (List ℕ)) (count : ℕ) → Keeps old mid →
     IsChecked style name text earlier mid new count → IsChecked style name text earlier old new count
 checked_after style name text earlier old mid new count kept checked = record {
@@ -17,7 +17,7 @@ checked_after style name text earlier old mid new count kept checked = record {
   written = Appends-trans old mid new [] checked.bytes (Appends-kept old old mid [] (Appends-nil old) kept) checked.written;
 }
 
--- and before they are kept
+-- checking a text, before calls that change no output
 checked_before : (style : Style) (name text : List ℕ) (earlier : ℕ) (old mid new : Option (List ℕ)) (count : ℕ) →
     IsChecked style name text earlier old mid count → Keeps mid new → IsChecked style name text earlier old new count
 checked_before style name text earlier old mid new count checked kept = record {
@@ -35,7 +35,7 @@ file_checked style file name text before after old mid new kept is counted =
     let shown = subst (λ (n : List ℕ). IsTextCounted style n text before mid new after) is counted in
     inr (text, (shown.0, checked_after style (display_name file) text before.errors old mid new shown.0 kept shown.1, shown.2))
 
--- a file is counted before known bytes are kept
+-- counting a file, before calls that change no output
 pub counted_before : (style : Style) (file : List ℕ) (before after : Tally) (old mid new : Option (List ℕ)) →
     IsFileCounted style file before old mid after → Keeps mid new → IsFileCounted style file before old new after
 counted_before style file before after old mid new (inl unread) kept = inl (Keeps-trans old mid new unread.0 kept, unread.1)
@@ -45,7 +45,7 @@ counted_before style file before after old mid new (inr checked) kept =
       (checked.1.0, checked_before style (display_name file) checked.0 before.errors old mid new checked.1.0 checked.1.1 kept, checked.1.2),
     )
 
--- one file more is counted
+-- one more file is counted
 pub one_counted : (style : Style) (failed : ℕ) (old mid new : Option (List ℕ)) (files : List (String Global)) (i : ℕ) (file : String Global)
     (before after : Tally) → i < length files → file ≡ get_or files i file →
     AreChecked style failed old (map string_bytes (take i files)) mid before → IsFileCounted style (string_bytes file) before mid new after →

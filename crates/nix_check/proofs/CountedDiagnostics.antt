@@ -1,4 +1,4 @@
--- How many diagnostics a text has.
+-- The number of diagnostics of a text.
 use Rattle.std.proofs.Common.{◌≡◌, ◌∙◌, ℕ, ◌+◌, ◌<◌, ◌≤◌, take, Bool, true, false, List, [], ◌∷◌, ◌++◌, length, map, sym, ap, arith, refl}
 use Rattle.std.proofs.lemmas.List.{length_push, length-map, take-take}
 use Rattle.std.proofs.Common.{length-append}
@@ -11,18 +11,18 @@ use Rattle.nix_lints.specs.Repeated.{repeated_in}
 use Rattle.nix_check.specs.Lints.{finding_of, finding_at, repeated_findings}
 use Rattle.nix_check.specs.FoundDiagnostics.{AreErrors, AreFound, AreCounted}
 
--- where no diagnostics show errors, there are none
+-- if there are no diagnostics, there are no errors
 none_shown : (root : Located) (all faults : List Fault) (ds : List Diagnostic) → Shows root all faults ds → length ds ≡ 0 → faults ≡ []
 none_shown root all _ _ none is = refl
 none_shown root all _ _ (shown faults more ds fault d are first follow at worded code from end) is = absurd (omega (arith, length_push ds d, is))
 
--- where there are none, no diagnostics show them
+-- if there are no errors, there are no diagnostics
 shows_none : (root : Located) (all faults : List Fault) (ds : List Diagnostic) → Shows root all faults ds → faults ≡ [] → length ds ≡ 0
 shows_none root all _ _ none is = refl
 shows_none root all _ _ (shown faults more ds fault d are first follow at worded code from end) is =
     absurd (omega (arith, length-append faults (fault ∷ more), ap length is))
 
--- the same of diagnostics that show one error each
+-- the same, for diagnostics that show one error each
 none_each_shown : (root : Located) (faults : List Fault) (ds : List Diagnostic) → ShowsEach root faults ds → length ds ≡ 0 → faults ≡ []
 none_each_shown root _ _ none_each is = refl
 none_each_shown root _ _ (one_each faults ds fault d are single) is = absurd (omega (arith, length_push ds d, is))
@@ -36,12 +36,12 @@ pub none_found : (is_each : Bool) (root : Located) (faults : List Fault) (ds : L
 none_found true root faults ds are is = none_each_shown root faults ds (are.each refl) is
 none_found false root faults ds are is = none_shown root faults faults ds (are.shown refl) is
 
--- one without errors has no diagnostics
+-- a tree without errors has no diagnostics of errors
 pub finds_none : (is_each : Bool) (root : Located) (faults : List Fault) (ds : List Diagnostic) → AreErrors is_each root faults ds → faults ≡ [] → length ds ≡ 0
 finds_none true root faults ds are is = shows_none_each root faults ds (are.each refl) is
 finds_none false root faults ds are is = shows_none root faults faults ds (are.shown refl) is
 
--- where nothing is listed on one side, nothing is on the other
+-- if two mapped lists are equal and one is empty, so is the other
 map_nil : {A B C : Type 0} (f : A → C) (g : B → C) (xs : List A) (ys : List B) → map f xs ≡ map g ys → length xs ≡ 0 → ys ≡ []
 map_nil f g xs [] is no_item = refl
 map_nil f g xs (y ∷ ys) is no_item = absurd (omega (arith, no_item, length-map xs f, ap length is))
@@ -53,7 +53,7 @@ clean_tree is_each root [] ds are no_item = (refl, map_nil finding_of finding_at
 clean_tree is_each root (f ∷ faults) ds are no_item =
     absurd (omega (arith, ap length (none_found is_each root (f ∷ faults) ds (are.errors (λ never. omega (arith, ap length never))) no_item)))
 
--- one without errors that defines no attribute again has no diagnostics
+-- a tree without errors that defines no attribute again has no diagnostics
 clean_found : (is_each : Bool) (root : Located) (faults : List Fault) (ds : List Diagnostic) → AreFound is_each root faults ds →
     (faults ≡ []) × (repeated_in root ≡ []) → length ds ≡ 0
 clean_found is_each root faults ds are clean =
@@ -75,7 +75,7 @@ found_counted is_each text tree faults found count read are is = record {
   );
 }
 
--- the diagnostics of errors, if there are some
+-- the diagnostics are those of the errors, if there are errors
 pub errors_found : (is_each : Bool) (root : Located) (faults : List Fault) (ds : List Diagnostic) → AreErrors is_each root faults ds →
     (length ds ≡ 0 → ⊥) → AreFound is_each root faults ds
 errors_found is_each root faults ds are some = record {
@@ -83,7 +83,7 @@ errors_found is_each root faults ds are some = record {
   repeated = λ no_fault. absurd (some (finds_none is_each root faults ds are no_fault));
 }
 
--- the attributes that are defined again, if there are no errors
+-- the diagnostics are those of the attributes that are defined again, if there are no errors
 pub repeated_found : (is_each : Bool) (root : Located) (faults : List Fault) (errors ds : List Diagnostic) → AreErrors is_each root faults errors →
     length errors ≡ 0 → map finding_of ds ≡ repeated_findings root → AreFound is_each root faults ds
 repeated_found is_each root faults errors ds are no_error is = record {
@@ -91,15 +91,15 @@ repeated_found is_each root faults errors ds are no_error is = record {
   repeated = λ _. is;
 }
 
--- if each error has its diagnostic
+-- each error has its own diagnostic
 pub each_found : (root : Located) (faults : List Fault) (found : List Diagnostic) → ShowsEach root faults found → AreErrors true root faults found
 each_found root faults found each = record { each = λ _. each; shown = λ never. cc; runs = λ never. cc }
 
--- if each mistake has its diagnostic
+-- each mistake has its own diagnostic
 pub runs_found : (root : Located) (faults : List Fault) (found : List Diagnostic) → Shows root faults faults found → CoverRuns root faults found →
     AreErrors false root faults found
 runs_found root faults found are cover = record { each = λ never. cc; shown = λ _. are; runs = λ _. cover }
 
--- the first of some diagnostics up to a limit are those of the first ones up to a larger one
+-- taking diagnostics up to a larger limit first does not change the first ones up to the limit
 pub first_take : (limit most : ℕ) (all first : List Diagnostic) → limit ≤ most → first ≡ take most all → take limit first ≡ take limit all
 first_take limit most all first fits is = ap (take limit) is ∙ take-take limit most all fits

@@ -1,14 +1,14 @@
--- Pieces of output, one after the other.
+-- Pieces of output, one after another.
 use Rattle.std.proofs.Common.{◌≡◌, ℕ, ◌+◌, ◌<◌, ◌≤◌, ◌==◌, ◌&&◌, Bool, true, false, List, [], ◌∷◌, ◌++◌, length, map, take, get_or, append-nil, append_assoc, Option, refl, ap, sym, ◌∙◌, arith, subst, suc}
 use Rattle.std.proofs.{KnownBytes.{Appends-nil, Appends-trans}, lemmas.{List.{take_more, map-append, flat_map_more, length-map, length-take-le}, Bool.Decides.nat_tests}}
 use Rattle.std.specs.{List.flat_map, Io.KnownBytes.Appends, Prelude.{◌≢◌, codes}}
 use Rattle.nix_check.specs.Listed.{Prints, AreListed, none_listed, one_listed, comma, comma_joined}
 
--- no pieces are printed
+-- printing no pieces
 pub none_printed : {A : Type 0} (Has : ℕ → A → List ℕ → Type 0) (first : ℕ) (old : Option (List ℕ)) → Prints (AreListed Has first []) old old
 none_printed Has first old = ([], none_listed, Appends-nil old)
 
--- one piece more is printed
+-- printing one more piece
 pub one_printed : {A : Type 0} (Has : ℕ → A → List ℕ → Type 0) (first : ℕ) (xs : List A) (i : ℕ) (d : A) (old mid new : Option (List ℕ)) →
     i < length xs → Prints (AreListed Has first (take i xs)) old mid → Prints (Has (first + i) (get_or xs i d)) mid new →
     Prints (AreListed Has first (take (i + 1) xs)) old new
@@ -21,11 +21,11 @@ one_printed {A} Has first xs i d old mid new within before own =
       Appends-trans old mid new before.0 own.0 before.2 own.2,
     )
 
--- values that follow others have a comma
+-- a value after others has a comma before it
 some_comma : (n : ℕ) → 0 < n → comma n ≡ codes ","
 some_comma n some = grind (arith, nat_tests)
 
--- the text of one value more, with its comma
+-- the text of one more value, with its comma
 pub joined_more : (texts : List (List ℕ)) (text : List ℕ) → comma_joined (texts ++ text ∷ []) ≡ comma_joined texts ++ (comma (length texts) ++ text)
 joined_more [] text = append-nil text
 joined_more (first ∷ texts) text =
@@ -33,7 +33,7 @@ joined_more (first ∷ texts) text =
     ∙ sym (append_assoc first (flat_map (λ more. codes "," ++ more) texts) (codes "," ++ text))
     ∙ ap (λ c. (first ++ flat_map (λ more. codes "," ++ more) texts) ++ (c ++ text)) (sym (some_comma (suc (length texts)) (omega arith)))
 
--- one value more is written, with its comma
+-- writing one more value, with its comma
 pub one_joined : {A : Type 0} (f : A → List ℕ) (xs : List A) (i : ℕ) (d : A) (old mid next new : Option (List ℕ)) → i < length xs →
     Appends old mid (comma_joined (map f (take i xs))) → Appends mid next (comma i) → Appends next new (f (get_or xs i d)) →
     Appends old new (comma_joined (map f (take (i + 1) xs)))
@@ -46,7 +46,7 @@ one_joined {A} f xs i d old mid next new within before separated own =
     subst (λ (bytes : List ℕ). Appends old new bytes) whole
     (Appends-trans old mid new (comma_joined (map f (take i xs))) (comma i ++ f x) before (Appends-trans mid next new (comma i) (f x) separated own))
 
--- the piece of one value more is written
+-- writing the piece of one more value
 pub bytes_more : {A : Type 0} (f : A → List ℕ) (xs : List A) (i : ℕ) (d : A) (old mid new : Option (List ℕ)) → i < length xs →
     Appends old mid (flat_map f (take i xs)) → Appends mid new (f (get_or xs i d)) → Appends old new (flat_map f (take (i + 1) xs))
 bytes_more {A} f xs i d old mid new within before own =
@@ -54,7 +54,7 @@ bytes_more {A} f xs i d old mid new within before own =
     flat_map_more f [] (take i xs) (get_or xs i d) ∙ ap (flat_map f) (sym (take_more xs i d within)) in
     subst (λ (bytes : List ℕ). Appends old new bytes) all (Appends-trans old mid new (flat_map f (take i xs)) (f (get_or xs i d)) before own)
 
--- a value is the first one of all if none precede it in its list or in others
+-- a value is the first of all if none precedes it in its list and no list precedes that
 pub first_of_all : (earlier number : ℕ) → earlier ≡ 0 → (number == 0) ≡ (earlier + number == 0)
 first_of_all earlier number none = grind (arith, nat_tests)
 

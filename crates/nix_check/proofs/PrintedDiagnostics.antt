@@ -1,4 +1,4 @@
--- What is printed of the diagnostics of a text.
+-- The output for the diagnostics of a text.
 use Rattle.std.proofs.Common.{◌≡◌, ◌∙◌, ℕ, ◌+◌, ◌-◌, ◌<◌, ◌≤◌, Bool, List, [], ◌∷◌, ◌++◌, length, take, Option, sym, ap, subst, arith, refl, inl, inr}
 use Rattle.std.proofs.{KnownBytes.{Appends-nil, Appends-trans}, lemmas.{List.take_all, Bool.cases_lt}}
 use Rattle.std.specs.Io.KnownBytes.{Appends}
@@ -15,7 +15,7 @@ use Rattle.nix_check.specs.Listed.{Prints, none_listed}
 use Rattle.nix_check.specs.Printed.{IsPrintedAs, IsPrinted, AreFormed, ArePrinted, IsChecked, more_line}
 use Rattle.nix_check.proofs.CountedDiagnostics.{found_counted}
 
--- a diagnostic is printed in the form of the style
+-- printing a diagnostic in the form of the style
 pub as_text : (style : Style) (name text : List ℕ) (is_first : Bool) (d : Diagnostic) (old new : Option (List ℕ)) → style.format ≡ form.Text →
     Prints (IsText style.is_colored name text d) old new → Prints (IsPrinted style name text is_first d) old new
 as_text style name text is_first d old new is printed =
@@ -45,7 +45,7 @@ take_limited xs limit =
           )
     ]
 
--- the diagnostics up to the limit, of some that begin with these, and the line on the others
+-- printing the diagnostics up to the limit, and the line about the others
 pub all_printed : (style : Style) (name text : List ℕ) (earlier : ℕ) (first all : List Diagnostic) (rest more : ℕ) (old mid new : Option (List ℕ)) →
     rest ≡ length first - style.limit → take style.limit first ≡ take style.limit all → more ≡ length all - style.limit →
     Prints (AreFormed style name text earlier (take (length first - rest) first)) old mid → Appends mid new (more_line name more) →
@@ -75,7 +75,7 @@ some_checked style name text earlier old new tree faults found count read are is
   written = printed.2;
 }
 
--- no diagnostics print nothing
+-- printing no diagnostics appends nothing
 none_printed_of : (style : Style) (name text : List ℕ) (earlier : ℕ) (found : List Diagnostic) (old : Option (List ℕ)) → length found ≡ 0 →
     Prints (ArePrinted style name text earlier found) old old
 none_printed_of style name text earlier [] old none =

@@ -1,4 +1,4 @@
--- What the definitions say of some examples.
+-- The output for some examples, by computation.
 use Rattle.std.proofs.Common.{◌≡◌, [], ◌∷◌, refl}
 use Rattle.std.specs.Prelude.{codes, true, false}
 use Rattle.nix_diagnostics.specs.declared.code.Code.TheVariants.{RepeatedAttribute}
@@ -9,7 +9,7 @@ use Rattle.nix_check.specs.{Listed.comma_joined, AsText.{message_text, severity_
 plain_message : message_text false (codes "31") (codes "error:") (codes "expected a value") ≡ codes "error: expected a value\n"
 plain_message = refl
 
--- what a result of SARIF begins with
+-- the members with which a result of SARIF begins
 repeated_rule : rule_members RepeatedAttribute ≡ codes "{\"ruleId\":\"repeated-attribute\",\"level\":\"error\","
 repeated_rule = refl
 
@@ -25,15 +25,15 @@ two_joined = refl
 spaced_uri : uri (codes "a b/50%.nix") ≡ codes "\"a%20b/50%25.nix\""
 spaced_uri = refl
 
--- one file was not read
+-- the end of the output if a file was not read
 incomplete_tail : sarif_tail false ≡ codes "\n],\"invocations\":[{\"executionSuccessful\":false}]}]}\n"
 incomplete_tail = refl
 
--- diagnostics that are not printed
+-- the line about diagnostics that are not printed
 one_more_line : more_line (codes "a.nix") 1 ≡ codes "a.nix: 1 more error (shown with --all)\n"
 one_more_line = refl
 
--- the counts and the status without errors, with errors, and where a file was not read
+-- the counts and the status without errors, with errors, and with an unread file
 clean_line : count_line record { errors = 0; unread = 0 } ≡ codes "no errors\n"
 clean_line = refl
 

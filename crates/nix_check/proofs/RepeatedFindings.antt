@@ -1,4 +1,4 @@
--- Repetitions as diagnostics, one after the other.
+-- Repetitions as diagnostics, one after another.
 use Rattle.std.proofs.Common.{◌≡◌, ◌∙◌, ℕ, ◌+◌, ◌<◌, ◌≤◌, List, [], ◌∷◌, ◌++◌, length, map, take, drop, get_or, Some, sym, ap, subst, refl, arith, inl, inr}
 use Rattle.std.proofs.lemmas.{List.{map-append, length-map, length-take-le, take_all, take_more, take-append-le, take-append-drop}, Bool.cases_lt}
 use Rattle.std.specs.Prelude.{min, codes, string_bytes, slice_set}
@@ -9,11 +9,11 @@ use Rattle.nix_diagnostics.specs.declared.diagnostic.{Diagnostic.Diagnostic, Fir
 use Rattle.nix_lints.specs.{Repeated.{repetition_of, repeated_in}, declared.repeated.Repeated.Repeated}
 use Rattle.nix_check.specs.Lints.{Finding, bounds_if, finding_of, finding_at, repeated_findings, AreFirstRepeated}
 
--- the finding of a repetition of the program
+-- the finding of a repetition in the program
 abbrev pub finding_from : Repeated → Finding
 finding_from repeated = finding_at (repetition_of repeated)
 
--- one repetition more
+-- one more repetition
 pub finding_more : (found new : List Diagnostic) (repeated : List Repeated) (i : ℕ) (r : Repeated) (d : Diagnostic) →
     map finding_of found ≡ map finding_from (take i repeated) → i < length repeated → r ≡ get_or repeated i r → finding_of d ≡ finding_from r →
     new ≡ found ++ d ∷ [] → map finding_of new ≡ map finding_from (take (i + 1) repeated)
@@ -27,12 +27,12 @@ pub findings_listed : (repeated : List Repeated) → map finding_from repeated �
 findings_listed [] = refl
 findings_listed (r ∷ repeated) = ap (λ xs. finding_from r ∷ xs) (findings_listed repeated)
 
--- a finding of these parts
+-- a finding with these parts
 abbrev reported : Code → Extent → List ℕ → List Note → List (List ℕ) → Finding
 reported code extent message notes texts =
     record { code = code; extent = extent; message = message; notes = map (λ (note : Note). bounds_if note.range) notes; texts = texts }
 
--- a note at another place
+-- a note at another range
 abbrev note_at : Note → TextRange → Note
 note_at note range = record { range = Some range; message = note.message; replacement = note.replacement }
 
@@ -47,7 +47,7 @@ like d note r = record {
   notes = with_item d.notes 0 (note_at note r.first);
 }
 
--- it reports that repetition
+-- this diagnostic reports the other repetition
 like_found : (d : Diagnostic) (note : Note) (own r : Repeated) → finding_of d ≡ finding_from own → d.notes.items ≡ note ∷ [] →
     finding_of (like d note r) ≡ finding_from r
 like_found d note own r is one =
@@ -62,7 +62,7 @@ like_found d note own r is one =
     ∙ ap (λ m. reported RepeatedAttribute extent m (new ∷ []) (note.message.now ∷ [])) (ap (λ (f : Finding). f.message) is)
     ∙ ap (reported RepeatedAttribute extent message (new ∷ [])) text
 
--- so do those of other repetitions
+-- the same for several repetitions
 all_like : (d : Diagnostic) (note : Note) (own : Repeated) (rest : List Repeated) → finding_of d ≡ finding_from own → d.notes.items ≡ note ∷ [] →
     map finding_of (map (like d note) rest) ≡ map finding_from rest
 all_like d note own [] is one = refl
@@ -70,13 +70,13 @@ all_like d note own (r ∷ rest) is one =
     ap (λ f. f ∷ map finding_of (map (like d note) rest)) (like_found d note own r is one)
     ∙ ap (λ fs. finding_from r ∷ fs) (all_like d note own rest is one)
 
--- where there is one text, there is one note
+-- if there is one message, there is one note
 has_note : (notes : List Note) (text : List ℕ) → map (λ (n : Note). n.message.now) notes ≡ text ∷ [] → (note : Note) × (notes ≡ note ∷ [])
 has_note [] text is = absurd (omega (arith, ap length is))
 has_note (note ∷ []) text is = (note, refl)
 has_note (note ∷ other ∷ notes) text is = absurd (omega (arith, ap length is))
 
--- there are diagnostics of all repetitions, if there is one of the first
+-- if there is a diagnostic of the first repetition, there are diagnostics of all
 rest_found : (first : List Diagnostic) (repeated rest : List Repeated) → map finding_of first ≡ map finding_from repeated → 0 < length repeated →
     (more : List Diagnostic) × (map finding_of more ≡ map finding_from rest)
 rest_found first [] rest is some = absurd (omega (arith, some))
@@ -90,11 +90,11 @@ rest_found (d ∷ first) (own ∷ repeated) rest is some =
 all_found : (root : Located) (repeated : List Repeated) → map repetition_of repeated ≡ repeated_in root → map finding_from repeated ≡ repeated_findings root
 all_found root repeated is = findings_listed repeated ∙ ap (map finding_at) is
 
--- as many diagnostics as repetitions
+-- there are as many diagnostics as repetitions
 same_length : (ds : List Diagnostic) (repeated : List Repeated) → map finding_of ds ≡ map finding_from repeated → length ds ≡ length repeated
 same_length ds repeated is = sym (length-map ds finding_of) ∙ ap length is ∙ length-map repeated finding_from
 
--- all are made
+-- all diagnostics are made
 all_made : (root : Located) (most : ℕ) (found : FirstDiagnostics) (repeated : List Repeated) → length repeated ≤ most →
     map finding_of found.first.items ≡ map finding_from repeated → found.count ≡ length repeated → map repetition_of repeated ≡ repeated_in root →
     AreFirstRepeated root most found
@@ -107,7 +107,7 @@ all_made root most found repeated few made count is =
       count = count ∙ sym same;
     }
 
--- some are only counted
+-- some diagnostics are only counted
 some_made : (root : Located) (most : ℕ) (found : FirstDiagnostics) (repeated : List Repeated) → 0 < most → most < length repeated →
     map finding_of found.first.items ≡ map finding_from (take most repeated) → found.count ≡ length repeated → map repetition_of repeated ≡ repeated_in root →
     AreFirstRepeated root most found
@@ -126,7 +126,7 @@ some_made root most found repeated some less made count is =
       count = count ∙ sym (same_length (first ++ more.0) repeated all);
     }
 
--- the first diagnostics of repetitions, at most so many
+-- the first diagnostics of repetitions, at most `most`
 pub first_made : (root : Located) (most shown : ℕ) (found : FirstDiagnostics) (repeated : List Repeated) → 0 < most → shown ≡ min (length repeated) most →
     map finding_of found.first.items ≡ map finding_from (take shown repeated) → found.count ≡ length repeated → map repetition_of repeated ≡ repeated_in root →
     AreFirstRepeated root most found

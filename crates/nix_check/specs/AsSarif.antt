@@ -39,7 +39,7 @@ is_unreserved b = is_ascii_alphanumeric b || (b == 47 || (b == 46 || (b == 45 ||
 abbrev pub upper_digit : ℕ → ℕ
 upper_digit n = if nat_lt n 10 then 48 + n else 55 + n
 
--- a byte as a URI has it: itself, or its number after `%`
+-- a byte in a URI: the byte itself, or its number after `%`
 abbrev pub uri_byte : ℕ → List ℕ
 uri_byte b = if is_unreserved b then b ∷ [] else 37 ∷ upper_digit (b / 16) ∷ upper_digit (b % 16) ∷ []
 
@@ -63,12 +63,12 @@ location name text range =
 abbrev pub message_object : List ℕ → List ℕ
 message_object message = codes "\"message\":{\"text\":" ++ json_string message ++ codes "}"
 
--- a note: its place, or that of its diagnostic, and its message
+-- a note: its location, or else that of its diagnostic, and its message
 abbrev pub related_location : List ℕ → List ℕ → TextRange → Note → List ℕ
 related_location name text range note =
     codes "{" ++ location name text (unwrap_or note.range range) ++ codes "," ++ message_object note.message.now ++ codes "}"
 
--- what a result reports, and how serious that is
+-- the code and the severity of a result
 abbrev pub rule_members : Code → List ℕ
 rule_members code =
     codes "{\"ruleId\":\"" ++ (code_name code ++ (codes "\",\"level\":\"" ++ (severity_name (severity_of code) ++ codes "\",")))

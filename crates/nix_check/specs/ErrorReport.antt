@@ -1,4 +1,4 @@
--- The report on some files: what is printed of each, the counts over all files, and the exit status.
+-- The report on some files: the output for each, the counts over all files, and the exit status.
 use Rattle.std.specs.Prelude.{◌≡◌, ◌⊎◌, ℕ, ◌+◌, ◌-◌, ◌^◌, ◌==◌, min, List, [], ◌∷◌, ◌++◌, codes, decimal, Option, if◌then◌else◌}
 use Rattle.std.specs.Io.KnownBytes.{Appends, Keeps}
 use Rattle.nix_cli.specs.declared.arguments.TheConstants.{VERSION}
@@ -13,14 +13,14 @@ use Rattle.nix_check.specs.{Printed.IsChecked, AsSarif.{sarif_head, sarif_tail}}
 abbrev pub plus : ℕ → ℕ → ℕ
 plus a b = min (a + b) (2 ^ 64 - 1)
 
--- the counts with more errors, and with a file that is not read
+-- the counts with more errors; the counts with one more unread file
 abbrev pub with_errors : Tally → ℕ → Tally
 with_errors tally count = record { errors = plus tally.errors count; unread = tally.unread }
 
 abbrev pub with_unread : Tally → Tally
 with_unread tally = record { errors = tally.errors; unread = plus tally.unread 1 }
 
--- a text adds its errors to the counts, and they are printed
+-- a text is checked, and its errors are added to the counts
 abbrev pub IsTextCounted : Style → List ℕ → List ℕ → Tally → Option (List ℕ) → Option (List ℕ) → Tally → Type 0
 IsTextCounted style name text before old new after = (count : ℕ) × IsChecked style name text before.errors old new count × (after ≡ with_errors before count)
 
@@ -36,26 +36,26 @@ IsFileUnread before old new after = Keeps old new × (after ≡ with_unread befo
 abbrev pub IsFileCounted : Style → List ℕ → Tally → Option (List ℕ) → Option (List ℕ) → Tally → Type 0
 IsFileCounted style file before old new after = IsFileUnread before old new after ⊎ IsFileChecked style file before old new after
 
--- files are checked one after the other. Before the first one there are no errors, and as many unread files as folders that could not be read
+-- files are checked one after another. Before the first one there are no errors, and as many unread files as folders that could not be read
 pub data AreChecked (style : Style) (failed : ℕ) (old : Option (List ℕ)) : List (List ℕ) → Option (List ℕ) → Tally → Type 0 where
   none_checked : AreChecked style failed old [] old record { errors = 0; unread = failed }
   one_checked : (files : List (List ℕ)) (mid new : Option (List ℕ)) (before after : Tally) (file : List ℕ) →
       AreChecked style failed old files mid before → IsFileCounted style file before mid new after →
       AreChecked style failed old (files ++ file ∷ []) new after
 
--- what is printed before the first file
+-- the output before the first file
 abbrev pub report_head : Format → List ℕ
 report_head form.Text = []
 report_head form.Json = []
 report_head form.Sarif = sarif_head (codes "nix-check") VERSION.now
 
--- the last line of text: the number of errors; without errors there is none if some files could not be read
+-- the last line of the text form: the number of errors; there is none if no errors were found and some files could not be read
 abbrev pub count_line : Tally → List ℕ
 count_line tally =
     if tally.errors == 0 then (if tally.unread == 0 then codes "no errors\n" else [])
     else (if tally.errors == 1 then codes "1 error\n" else decimal tally.errors ++ codes " errors\n")
 
--- what is printed after the last file
+-- the output after the last file
 abbrev pub report_tail : Format → Tally → List ℕ
 report_tail form.Text tally = count_line tally
 report_tail form.Json tally = []

@@ -1,4 +1,4 @@
--- The diagnostics of a text, and how many there are.
+-- The diagnostics of a text, and their number.
 use Rattle.std.specs.Prelude.{◌≡◌, ◌↔◌, ℕ, Bool, true, false, List, [], length, take, map}
 use Rattle.rnix_kinds.specs.Lexical.Tokens.{tokens_of}
 use Rattle.rnix_green.specs.Tree.{Tree, Located}
@@ -15,12 +15,12 @@ pub record AreErrors (is_each : Bool) (root : Located) (faults : List Fault) (fo
   pub shown : is_each ≡ false → AreShown root faults found
   pub runs : is_each ≡ false → CoverRuns root faults found
 
--- the diagnostics of a tree: of its errors, or if it has none, of the attributes that are defined again
+-- the diagnostics of a tree: those of its errors, or if it has none, those of the attributes that are defined again
 pub record AreFound (is_each : Bool) (root : Located) (faults : List Fault) (found : List Diagnostic) : Type 0 where
   pub errors : ¬ (faults ≡ []) → AreErrors is_each root faults found
   pub repeated : faults ≡ [] → map finding_of found ≡ repeated_findings root
 
--- the first of some diagnostics, at least up to a limit, and the number of all
+-- the first of some diagnostics, at least as many as the limit if there are so many, and the number of all
 pub record AreFirstUpTo (limit : ℕ) (all : List Diagnostic) (found : FirstDiagnostics) : Type 0 where
   pub first : take limit found.first.items ≡ take limit all
   pub count : found.count ≡ length all

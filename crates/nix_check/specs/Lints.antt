@@ -10,7 +10,7 @@ use Rattle.nix_diagnostics.specs.declared.diagnostic.FirstDiagnostics.{FirstDiag
 use Rattle.nix_diagnostics.specs.declared.notes.Note.{Note}
 use Rattle.nix_lints.specs.Repeated.{Repetition, repeated_in}
 
--- what a diagnostic reports, its place and its message, and the places and messages of its notes
+-- the code of a diagnostic, its range and its message, and the ranges and messages of its notes
 pub record Finding : Type 0 where
   pub code : Code
   pub extent : Extent
@@ -47,7 +47,7 @@ finding_at repetition = record {
 abbrev pub repeated_findings : Located → List Finding
 repeated_findings root = map finding_at (repeated_in root)
 
--- the first of the diagnostics of the attributes that are defined again, at most so many, and the number of all of these
+-- the first of the diagnostics of the attributes that are defined again, at most `most`, and the number of all of these
 pub record AreFirstRepeated (root : Located) (most : ℕ) (found : FirstDiagnostics) : Type 0 where
   pub all : List Diagnostic
   pub are : map finding_of all ≡ repeated_findings root

@@ -22,20 +22,20 @@ abbrev pub AreFormed : Style → List ℕ → List ℕ → ℕ → List Diagnost
 AreFormed style name text earlier found bytes =
     AreListed (λ (number : ℕ) (d : Diagnostic) (piece : List ℕ). IsPrinted style name text (number == 0) d piece) earlier found bytes
 
--- the line on diagnostics that are not printed
+-- the line about diagnostics that are not printed
 abbrev pub more_line : List ℕ → ℕ → List ℕ
 more_line name more =
     if more == 0 then codes ""
     else (if more == 1 then name ++ codes ": 1 more error (shown with --all)\n"
     else name ++ codes ": " ++ decimal more ++ codes " more errors (shown with --all)\n")
 
--- the first diagnostics up to the limit, and a line on the others
+-- the first diagnostics up to the limit, and a line about the others
 pub record ArePrinted (style : Style) (name text : List ℕ) (earlier : ℕ) (found : List Diagnostic) (bytes : List ℕ) : Type 0 where
   pub shown : List ℕ
   pub are_shown : AreFormed style name text earlier (take style.limit found) shown
   pub whole : bytes ≡ shown ++ more_line name (length found - style.limit)
 
--- a text is checked, after earlier diagnostics: its diagnostics are counted and printed, and nothing else is
+-- a text is checked after earlier diagnostics: its diagnostics are counted and printed, and nothing else is printed
 pub record IsChecked (style : Style) (name text : List ℕ) (earlier : ℕ) (old new : Option (List ℕ)) (count : ℕ) : Type 0 where
   pub found : List Diagnostic
   pub are_counted : AreCounted style.is_each text found count

@@ -41,7 +41,7 @@ fn write_fixes<W: Write>(name: &str, fixes: usize, out: &mut W) -> io::Result<()
     }
 }
 
-// Fixes a file, or for `-` prints the fixed text of standard input. Writes the number of fixes and the errors that are left, and returns the number of these
+// Fixes a file, or for `-` prints the fixed text of standard input. Writes the number of fixes and the remaining errors, and returns the number of these
 // errors, or `None` if something could not be read or written.
 fn fix_file<W: Write>(
     rt: &HostRuntime,
@@ -64,7 +64,7 @@ fn fix_file<W: Write>(
     Ok(Some(remaining))
 }
 
-// Writes the last line, the number of errors that are left. There is no such line if no errors are left but some files could not be read or written.
+// Writes the last line, the number of remaining errors. There is no such line if no errors remain but some files could not be read or written.
 fn write_remaining<W: Write>(errors: usize, failed: usize, out: &mut W) -> io::Result<()> {
     match (errors, failed) {
         (0, 0) => writeln!(out, "no errors are left"),
@@ -74,7 +74,7 @@ fn write_remaining<W: Write>(errors: usize, failed: usize, out: &mut W) -> io::R
     }
 }
 
-/// Fixes files, writes the numbers of fixes and the errors that are left, and returns the exit status.
+/// Fixes files, writes the numbers of fixes and the remaining errors, and returns the exit status.
 pub fn fix_files<W: Write>(
     rt: &HostRuntime,
     program: &Program,

@@ -87,7 +87,7 @@ fn check_all(rt: &HostRuntime, arguments: &Arguments, format: Format) -> io::Res
     Ok(status)
 }
 
-// Fixes the files that the command line names, prints the errors that are left, and returns the exit status.
+// Fixes the files that the command line names, prints the remaining errors, and returns the exit status.
 fn fix_all(rt: &HostRuntime, arguments: &Arguments) -> io::Result<u8> {
     let style = style_of(rt, arguments, Format::Text);
     let mut out = BufWriter::new(rt.alloc(), rt.stderr())?;

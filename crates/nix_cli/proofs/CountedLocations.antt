@@ -5,7 +5,7 @@ use Rattle.rnix_text.specs.declared.line_column.{ColumnUnit.TheVariants.Chars, P
 use Rattle.rnix_text.{specs.Positions.{newline, weight, origin, step, position_at}, proofs.ByteSteps.column_bound}
 use Rattle.rnix_text.specs.TextColumns.{Counted}
 
--- there is at most one line for each byte
+-- there are at most as many line ends as bytes
 line_bound : (bs : List ℕ) (p : Position) → (fold (step Chars) p bs).line ≤ p.line + length bs
 line_bound [] p = omega arith
 line_bound (b ∷ bs) p = newline_cases (b == newline) (line_bound bs)
@@ -18,7 +18,7 @@ line_bound (b ∷ bs) p = newline_cases (b == newline) (line_bound bs)
     newline_cases true rest = let h = rest record { line = p.line + 1; column = 0 } in omega (arith, h)
     newline_cases false rest = let h = rest record { line = p.line; column = p.column + weight Chars b } in omega (arith, h)
 
--- the line and the column of an offset fit in 64 bits, also counted from 1
+-- the line and the column of an offset fit in 64 bits, even when they are counted from 1
 pub location_fits : (text : List ℕ) (c : Counted) (offset : ℕ) (p : Position) → c ≡ record { text = text; unit = Chars } → IsCharBoundary c.text offset →
     p ≡ position_at c.unit c.text offset → length text < 2 ^ 63 → (p.line + 1 < 2 ^ 64) × (p.column + 1 < 2 ^ 64)
 location_fits text c offset p same within at small =

@@ -1,4 +1,4 @@
--- What stands for the bytes of a text in a JSON string.
+-- How the bytes of a text are written in a JSON string.
 use Rattle.std.proofs.Common.{◌≡◌, ℕ, ◌≤◌, true, ◌∷◌, [], refl, arith}
 use Rattle.std.proofs.lemmas.Bool.Decides.{nat_tests}
 use Rattle.nix_cli.{specs.JsonString.{is_plain, escape}, proofs.PlainRuns.KeepsPlain}
@@ -18,6 +18,6 @@ pub backslash_escape : 92 ∷ 92 ∷ [] ≡ escape 92
 unfolding escape
 backslash_escape = refl
 
--- a byte that is no control character, no quote and no backslash is plain
+-- a byte that is not a control character, a quote or a backslash is plain
 pub plain_byte : (b : ℕ) → 32 ≤ b → (b ≡ 34 → ⊥) → (b ≡ 92 → ⊥) → is_plain b ≡ true
 plain_byte b low quote backslash = grind (arith, nat_tests)

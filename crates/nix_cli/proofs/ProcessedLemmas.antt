@@ -12,7 +12,7 @@ names_more files i file within is =
     ∙ map-append string_bytes (take i files) (get_or files i file ∷ [])
     ∙ ap (λ f. map string_bytes (take i files) ++ string_bytes f ∷ []) (sym is)
 
--- the same is done with some files and with the next one
+-- one more file is processed
 pub processed_more : (Effect : FileEffect) (first : ℕ) (old mid new : Option (List ℕ)) (files : List (String Global)) (i : ℕ) (file : String Global)
     (status own : ℕ) → i < length files → file ≡ get_or files i file → AreProcessed Effect first old (map string_bytes (take i files)) mid status →
     Effect (string_bytes file) mid new own → AreProcessed Effect first old (map string_bytes (take (i + 1) files)) new (max status own)

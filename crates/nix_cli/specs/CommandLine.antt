@@ -91,7 +91,7 @@ with_option options option r =
     else (if options.has_colors && bytes_eq option (codes "--color") then with_color_next r
     else with_color_or (color_in options option) options option r))
 
--- reads an argument, if the task is still to run
+-- reads an argument, if the task is still to run the program
 abbrev pub with_argument : Options → List ℕ → Parsed → Parsed
 with_argument options argument r =
     if r.is_color_next then with_color argument r
@@ -99,7 +99,7 @@ with_argument options argument r =
     else (if nat_lt (length r.words) options.most then with_word argument r
     else with_task (refuses argument) r))
 
--- reads an argument after those that set a task; once the task is not to run, the others are ignored
+-- reads an argument, given the task so far; once the task is not to run the program, arguments are ignored
 abbrev pub after_task : Task → Options → List ℕ → Parsed → Parsed
 after_task runs options argument r = with_argument options argument r
 after_task task options argument r = r

@@ -1,10 +1,10 @@
--- How the characters of a line are shown: what is printed for them, and the spaces and carets below them.
+-- How the characters of a line are shown: what is printed for each, and the spaces and carets below it.
 use Rattle.std.specs.Prelude.{ℕ, ◌+◌, ◌==◌, nat_lt, ◌||◌, ◌&&◌, not, Bool, List, [], ◌∷◌, codes, if◌then◌else◌}
 use Rattle.std.specs.Char.{encode_utf8}
 use Rattle.std.specs.Str.{chars}
 use Rattle.std.specs.List.{flat_map}
 
--- whether a character is of ASCII and no control character
+-- whether a character is ASCII and not a control character
 abbrev pub is_simple : ℕ → Bool
 is_simple c = not (nat_lt c 32) && nat_lt c 127
 

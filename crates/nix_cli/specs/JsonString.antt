@@ -3,11 +3,11 @@ use Rattle.std.specs.Prelude.{ℕ, ◌==◌, nat_lt, ◌/◌, ◌%◌, Bool, not
 use Rattle.std.specs.Char.{digit_char}
 use Rattle.std.specs.List.{flat_map, list_all}
 
--- whether a byte stands for itself: it is no control character below 32, no quote and no backslash
+-- whether a byte needs no escape: it is not a control character below 32, a quote or a backslash
 abbrev pub is_plain : ℕ → Bool
 is_plain b = not (nat_lt b 32) && (not (b == 34) && not (b == 92))
 
--- what stands for a byte: itself, the number of a control character below 32 in four digits, a quote or a backslash after a backslash
+-- a byte as it is written in a string: itself, the number of a control character below 32 in four digits, or a quote or a backslash after a backslash
 unfoldable pub escape : ℕ → List ℕ
 escape b =
     if is_plain b then b ∷ []
@@ -18,6 +18,6 @@ escape b =
 abbrev pub json_string : List ℕ → List ℕ
 json_string text = codes "\"" ++ (flat_map escape text ++ codes "\"")
 
--- a name for people: the text itself, or the JSON string if that has escapes
+-- a name in messages: the text itself, or the JSON string if that has escapes
 abbrev pub shown_text : List ℕ → List ℕ
 shown_text text = if list_all is_plain text then text else json_string text

@@ -12,7 +12,7 @@ use Rattle.nix_data.specs.Added.{added, values_of, HasData}
 abbrev root : (Forest → Forest) → Located
 root expression = record { tree = record { kind = k.NODE_ROOT; children = expression empty }; number = 0 }
 
--- an identifier, an integer, a negative one, and an expression in parentheses
+-- an identifier, an integer, a negative integer, and an expression in parentheses
 abbrev ident : List ℕ → Forest → Forest
 ident name f = node k.NODE_IDENT (leaf k.TOKEN_IDENT name empty) f
 
@@ -42,7 +42,7 @@ one name = ident name empty
 abbrev two : List ℕ → List ℕ → Forest
 two first second = ident first (leaf k.TOKEN_DOT (codes ".") (ident second empty))
 
--- a value outside all others, and one inside another
+-- a value in no other value, and one inside another
 abbrev outer : Plain → Built
 outer plain = record { parent = None; name = []; plain = plain }
 
@@ -66,7 +66,7 @@ merged_set : values_of (root (a_set (λ f. entry (one (codes "a")) (a_set (entry
 unfolding added
 merged_set = refl
 
--- {a.b=1;c=2;a.d=3;}: the data have `d` after `b`
+-- {a.b=1;c=2;a.d=3;}: in the data, `d` follows `b`
 together : HasData (root (a_set (λ f. entry (two (codes "a") (codes "b")) (number (codes "1")) (entry (one (codes "c")) (number (codes "2"))
     (entry (two (codes "a") (codes "d")) (number (codes "3")) f)))))
     (at 0 [] set ∷ at 1 (codes "a") set ∷ at 2 (codes "b") (integer (pos 1)) ∷ at 2 (codes "d") (integer (pos 3)) ∷ at 1 (codes "c") (integer (pos 2)) ∷ [])
@@ -88,7 +88,7 @@ items : values_of (root (a_list (λ f. ident (codes "null") (in_parens (negative
 unfolding added
 items = refl
 
--- [x]: a name is no data
+-- [x]: a name is not data
 no_name : values_of (root (a_list (ident (codes "x")))) ≡ None
 unfolding added
 no_name = refl

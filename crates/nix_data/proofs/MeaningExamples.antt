@@ -90,7 +90,7 @@ set_means = (
   (tt, tt),
 )
 
--- another name, or another value, is not what the set means
+-- the set means no other name and no other value
 other_name : Means 2 0 [] (expression a_set) (entry_of 0 [] set ∷ entry_of 1 (codes "b") (boolean true) ∷ []) → ⊥
 other_name h =
     let same : entry_of 0 [] set ∷ entry_of 1 (codes "b") (boolean true) ∷ [] ≡ entry_of 0 [] set ∷ entry_of 1 (codes "a") (boolean true) ∷ [] =
@@ -105,11 +105,11 @@ other_value h =
     let plains : boolean false ≡ boolean true = ap (λ (es : List Entry). (get_or es 1 (entry_of 0 [] set)).plain) same in
     absurd (cc)
 
--- an integer is not a float
+-- an integer does not mean a float
 no_float : HasValue (expression (node k.NODE_LITERAL (leaf k.TOKEN_INTEGER (codes "1") empty) empty)) (float (codes "1")) → ⊥
 no_float h = absurd (cc (h.0.1))
 
--- a float that Nix cannot hold is no value, and the least integer of 64 bits is none
+-- a float that Nix cannot hold is not a value, nor is the least integer of 64 bits
 no_infinity : (e : Located) (digits : List ℕ) → is_held digits ≡ false → HasValue e (float digits) → ⊥
 no_infinity e digits not_held h =
     let clash : false ≡ true = sym not_held ∙ h.2 in
@@ -118,7 +118,7 @@ no_infinity e digits not_held h =
 no_least : (e : Located) → HasValue e (integer (neg_ℤ (pos (2 ^ 63)))) → ⊥
 no_least e h = omega (arith, h.2)
 
--- the entry of that set: one entry has a name of its own, and two that are the same do not
+-- the entry of that set: a single entry has a name of its own, and two equal ones do not
 abbrev an_entry : Located
 an_entry = record { tree = (expression a_set).tree; number = 3 }
 

@@ -1,4 +1,4 @@
--- Parts that are concatenated one after the other, and nodes that mean values one after the other.
+-- Lists that are concatenated one after another, and nodes that mean values one after another.
 use Rattle.std.proofs.Common.{◌≡◌, ◌∙◌, ℕ, suc, ◌+◌, ◌-◌, ◌<◌, true, false, arith, List, [], ◌∷◌, ◌++◌, ap, sym, refl, subst, append_assoc, None}
 use Rattle.std.proofs.lemmas.List.{append-nil}
 use Rattle.std.proofs.lemmas.Bool.{cond-true, cond-false}
@@ -10,23 +10,23 @@ use Rattle.nix_values.specs.Contents.{Plain, has_parts, Entry}
 use Rattle.nix_data.specs.Meaning.{name_of_kind, unwrapped, parts_of, IsPart, HaveDifferentNames, MeansPart, Means, InOrder, IsHead, MeansFirst}
 use Rattle.nix_data.proofs.DifferentNames.{names_of_none}
 
--- a node that is neither an identifier nor a string is no name
+-- a node that is neither an identifier nor a string denotes no name
 pub name_of_other : (kind : SyntaxKind) (e : Located) → (kind ≡ k.NODE_IDENT → ⊥) → (kind ≡ k.NODE_STRING → ⊥) → name_of_kind kind e ≡ None
 name_of_other k.NODE_IDENT e no_ident no_string = absurd (no_ident refl)
 name_of_other k.NODE_STRING e no_ident no_string = absurd (no_string refl)
 name_of_other _ e no_ident no_string = refl
 
--- the first of some nodes mean the first of some values after a head: with the values of the nodes that are left, they are the values of all
+-- if the remaining nodes mean values, these and the values used so far, after a head, are the values of all nodes
 abbrev pub Used : (Located → List Entry → Type 0) → List Located → List Located → Entry → List Entry → List Entry → Type 0
 Used means all remaining head entries rest =
     (used : List Entry) × ((others : List Entry) → InOrder means remaining others → InOrder means all (used ++ others)) × (entries ≡ head ∷ (used ++ rest))
 
--- no node is used yet
+-- before any node is used
 pub used_none : (means : Located → List Entry → Type 0) (all remaining : List Located) (head : Entry) (entries rest : List Entry) → remaining ≡ all →
     entries ≡ head ∷ rest → Used means all remaining head entries rest
 used_none means all remaining head entries rest same is = ([], λ others order. subst (λ nodes. InOrder means nodes others) same order, is)
 
--- one node more is used
+-- after one more node is used
 pub used_more : (levels depth : ℕ) (own : Plain) (all remaining after : List Located) (child inner : Located) (name : List ℕ) (head : Entry)
     (entries rest next : List Entry) →
     remaining ≡ child ∷ after → IsPart own child name inner → MeansFirst levels depth name inner rest next →
@@ -48,7 +48,7 @@ means_all : (levels depth : ℕ) (name : List ℕ) (e : Located) (head : Entry) 
 unfolding Means
 means_all levels depth name e head inside is parts differ = (head, inside, is, parts, refl, differ)
 
--- so it means the first of some values
+-- so it means the first of these values
 means_first : (total depth : ℕ) (name : List ℕ) (e : Located) (head : Entry) (inside entries rest : List Entry) → 0 < total →
     IsHead depth name (unwrapped e) head →
     InOrder (MeansPart (Means (total - 1) (depth + 1)) head.plain) (parts_of head.plain (unwrapped e)) inside →
@@ -57,7 +57,7 @@ means_first total depth name e head inside entries rest some is parts differ all
     let total_is : suc (total - 1) ≡ total = omega arith in
     subst (λ t. MeansFirst t depth name e entries rest) total_is (head ∷ inside, means_all (total - 1) depth name e head inside is parts differ, all)
 
--- an expression whose value has no values inside it means that value alone
+-- an expression whose value contains no others means that value alone
 pub means_alone : (total depth : ℕ) (name : List ℕ) (e : Located) (head : Entry) (entries rest : List Entry) → 0 < total →
     IsHead depth name (unwrapped e) head → has_parts head.plain ≡ false → entries ≡ head ∷ rest → MeansFirst total depth name e entries rest
 means_alone total depth name e head entries rest some is alone all =
@@ -66,7 +66,7 @@ means_alone total depth name e head entries rest some is alone all =
     (subst (λ nodes. InOrder (MeansPart (Means (total - 1) (depth + 1)) head.plain) nodes []) (sym none) refl)
     (subst (HaveDifferentNames head.plain) (sym none) (names_of_none head.plain)) all
 
--- an expression all of whose child nodes are used, and have different names in a set
+-- an expression means its values once all its child nodes are used and, in a set, have different names
 pub means_used : (total depth : ℕ) (name : List ℕ) (e : Located) (head : Entry) (remaining : List Located) (entries rest : List Entry) → 0 < total →
     IsHead depth name (unwrapped e) head → has_parts head.plain ≡ true → remaining ≡ [] →
     Used (MeansPart (Means (total - 1) (depth + 1)) head.plain) (nodes_in (children_of (unwrapped e))) remaining head entries rest →

@@ -1,25 +1,25 @@
--- Which tokens Nix reads otherwise, on worked examples.
+-- Which tokens Nix reads differently; by computation.
 use Rattle.std.proofs.Common.{◌≡◌, ◌++◌, ◌∷◌, [], true, false, refl}
 use Rattle.std.specs.Prelude.{codes}
 use Rattle.rnix_kinds.specs.declared.kinds.SyntaxKind.TheVariants as k
 use Rattle.nix_data.specs.Misread.{is_misread, is_altered}
 
--- space, tab, carriage return and line feed
+-- space, tab, carriage return and line feed: read alike
 blanks : is_misread k.TOKEN_WHITESPACE (32 ∷ 9 ∷ 13 ∷ 10 ∷ []) ≡ false
 blanks = refl
 
--- a form feed, and a no-break space in UTF-8
+-- a form feed, or a no-break space in UTF-8: read differently
 form_feed : is_misread k.TOKEN_WHITESPACE (32 ∷ 12 ∷ []) ≡ true
 form_feed = refl
 
 no_break_space : is_misread k.TOKEN_WHITESPACE (194 ∷ 160 ∷ []) ≡ true
 no_break_space = refl
 
--- a line that ends with a carriage return and a line feed, which is no part of the comment
+-- a comment before a line end of a carriage return and a line feed: read alike
 line_end : is_misread k.TOKEN_COMMENT (codes "# a" ++ 13 ∷ 32 ∷ 13 ∷ []) ≡ false
 line_end = refl
 
--- a carriage return inside a comment
+-- a carriage return inside a comment: read differently
 inside : is_misread k.TOKEN_COMMENT (codes "# a" ++ 13 ∷ codes " b = 1;") ≡ true
 inside = refl
 

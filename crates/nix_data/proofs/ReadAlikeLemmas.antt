@@ -1,4 +1,4 @@
--- Nix reads no token inside a node differently if it reads none inside its children differently.
+-- If Nix reads no token inside a node's children differently, it reads none inside the node differently.
 use Rattle.std.proofs.Common.{◌≡◌, ◌∙◌, ℕ, zero, suc, ◌+◌, ◌-◌, ◌<◌, Bool, true, false, List, ◌∷◌, length, map, Option, Some, ap, sym, refl, subst, arith, inl, inr}
 use Rattle.std.specs.Prelude.{if◌then◌else◌, not, ◌&&◌, ◌||◌}
 use Rattle.std.specs.List.{list_any}
@@ -16,7 +16,7 @@ use Rattle.nix_data.specs.Misread.{is_misread, is_misread_at, IsReadAlike}
 abbrev pub has_misread : Spot → Bool
 has_misread spot = if spot.0 then list_any is_misread_at (elements_of spot.1) else is_misread_at spot
 
--- elements with no such token, followed by others
+-- two runs of elements without such tokens, one after the other
 free_both : (test : Spot → Bool) (t : Tree) (n m j k total : ℕ) → m ≡ n + j → total ≡ j + k → list_any test (map (spot_at t) (counted n j)) ≡ false →
     list_any test (map (spot_at t) (counted m k)) ≡ false → list_any test (map (spot_at t) (counted n total)) ≡ false
 free_both test t n m zero k total e all first second =
@@ -32,11 +32,11 @@ free_both test t n m (suc j) k (suc total) e all first second =
     or_from (test (spot_at t n)) (list_any test (map (spot_at t) (counted (n + 1) total))) parts.0
     (free_both test t (n + 1) m j k total next fewer parts.1 second)
 
--- the items of a forest are those of a tree from a number on
+-- the elements of a forest are those of a tree from element n on
 abbrev AreItemsAt : Tree → ℕ → ℕ → Option ℕ → Forest → Type 0
 AreItemsAt t n s p f = (m i : ℕ) → m ≡ n + i → i < element_count f → item t m ≡ at n s p f i
 
--- the items after the first tree of a forest
+-- the elements after the first tree of a forest
 items_after : (t : Tree) (n s : ℕ) (p : Option ℕ) (k : _) (c f : Forest) → AreItemsAt t n s p (node k c f) →
     AreItemsAt t (n + 1 + element_count c) (s + length (text_of c)) p f
 items_after t n s p k c f items m i e l =
@@ -49,7 +49,7 @@ items_after t n s p k c f items m i e l =
           x ∙ ap (λ j. at (n + 1 + element_count c) (s + length (text_of c)) p f j) same
     ]
 
--- trees without such tokens are elements without such tokens
+-- if no tree of a forest has such a token, no element of the forest is one
 free_trees : (t : Tree) (n s : ℕ) (p : Option ℕ) (f : Forest) → AreItemsAt t n s p f →
     list_any has_misread (map (spot_at t) (tree_numbers n f)) ≡ false → list_any is_misread_at (map (spot_at t) (counted n (element_count f))) ≡ false
 free_trees t n s p empty items h = refl
@@ -77,7 +77,7 @@ free_trees t n s p (node k c f) items h =
     (omega arith) all
     (free_trees t (n + 1 + element_count c) (s + length (text_of c)) p f (items_after t n s p k c f items) parts.1)
 
--- a node that is no such token, and none of whose children is one or has one inside it
+-- a node is read alike if it is not such a token and none of its children is or contains one
 alike_there : (t : Tree) (n : ℕ) → n < length (items_of t) → is_misread_at (spot_at t n) ≡ false →
     list_any has_misread (children_of record { tree = t; number = n }) ≡ false → IsReadAlike record { tree = t; number = n }
 alike_there t n l own h = go _ (part_there t n l) (one_there t n l) h
@@ -108,12 +108,12 @@ alike_there t n l own h = go _ (part_there t n l) (one_there t n l) h
               | beyond high x ↦ absurd (omega arith)
             ]
 
--- an element whose kind and text are not those of such a token
+-- an element whose kind and text are not those of such a token is not one
 no_token : (is_node by_kind : Bool) → by_kind ≡ false → (not is_node && by_kind) ≡ false
 no_token true by_kind h = refl
 no_token false by_kind h = h
 
--- the same for an element of any number
+-- the same, for an element with any number
 pub alike_of_children : (e : Located) → is_misread (item_of e).kind (text_at e) ≡ false → list_any has_misread (children_of e) ≡ false → IsReadAlike e
 alike_of_children e kind_is h =
     let own : is_misread_at (spot_at e.tree e.number) ≡ false = no_token (item_of e).is_node (is_misread (item_of e).kind (text_at e)) kind_is in
@@ -126,7 +126,7 @@ alike_of_children e kind_is h =
           (or_from (is_misread_at (spot_at e.tree e.number)) false own refl)
     ]
 
--- one child more has no such token
+-- checking one more child without such a token
 pub free_more : (all remaining after : List Spot) (spot : Spot) → remaining ≡ spot ∷ after → has_misread spot ≡ false →
     list_any has_misread remaining ≡ list_any has_misread all → list_any has_misread after ≡ list_any has_misread all
 free_more all remaining after spot first free so_far =

@@ -24,7 +24,7 @@ use Rattle.nix_data.specs.Meaning.{expression_text, unsigned, is_integer, is_flo
 use Rattle.nix_data.specs.Misread.{is_altered}
 use Rattle.nix_data.specs.Written.{IsWritten}
 
--- the sorts of expressions that have values
+-- the sorts of expressions with values
 data Sort : Type 0 where
   word : Sort
   number : Sort
@@ -61,26 +61,26 @@ sort_at e = sort_of (item_of e).kind
 has_sort : (kind : SyntaxKind) (e : Located) → HasKind kind e → sort_of kind ≡ sort_at e
 has_sort kind e h = ap sort_of ((same_kind-decides kind (item_of e).kind).0 h)
 
--- a literal, perhaps with a sign, is a number
+-- a literal, possibly with a sign, is a number
 number_sort : (e : Located) (b : Bool) → same_kind k.NODE_UNARY_OP (item_of e).kind ≡ b → HasKind k.NODE_LITERAL (unsigned e) → number ≡ sort_at e
 number_sort e true is h = has_sort k.NODE_UNARY_OP e is
 number_sort e false is h =
     has_sort k.NODE_LITERAL e
     (subst (HasKind k.NODE_LITERAL) (cond-false (same_kind k.NODE_UNARY_OP (item_of e).kind) (unwrap_or (child_of is_expr 0 e) e) e is) h)
 
--- what is found after two tests passed the second one
+-- if a text is found after two tests, the second test passed
 second_passed : (altered is_string : Bool) (found : Option (List ℕ)) (t : List ℕ) →
     (if altered then None else (if is_string then found else None)) ≡ Some t → is_string ≡ true
 second_passed true is_string found t h = absurd (cc)
 second_passed false true found t h = refl
 second_passed false false found t h = absurd (cc)
 
--- what has a text is a string
+-- an expression with a text is a string
 string_sort : (e : Located) (t : List ℕ) → expression_text e ≡ Some t → string ≡ sort_at e
 string_sort e t h =
     has_sort k.NODE_STRING e (second_passed (is_altered (text_at e)) (same_kind k.NODE_STRING (item_of e).kind) (plain_value e) t h)
 
--- an integer that Nix can write has 64 bits
+-- an integer with less than 64 bits in absolute value fits in 64 bits with a sign
 fits : (n : ℤ) → unsigned_abs n < 2 ^ 63 → FitsSigned w64 n
 fits n few = fits_signed_from_abs w64 n few
 
@@ -94,7 +94,7 @@ value_sort e (text t) h = subst (IsOfSort (text t)) (string_sort e t h) (a_text 
 value_sort e list h = subst (IsOfSort list) (has_sort k.NODE_LIST e h) a_list
 value_sort e set h = subst (IsOfSort set) (has_sort k.NODE_ATTR_SET e h.0) a_set
 
--- the words differ
+-- the keywords differ
 null_differs : (b : Bool) → codes "null" ≡ word_of b → ⊥
 null_differs true e = let letter : ◌≡◌ {A = ℕ} 110 116 = ap (λ l. get_or l 0 0) e in omega (arith, letter)
 null_differs false e = let letter : ◌≡◌ {A = ℕ} 110 102 = ap (λ l. get_or l 0 0) e in omega (arith, letter)
@@ -112,7 +112,7 @@ not_both (Some (literal.Integer t)) i f = absurd (cc)
 not_both (Some (literal.Float t)) i f = absurd (cc)
 not_both (Some (literal.Uri t)) i f = absurd (cc)
 
--- values of one sort that an expression has are equal
+-- two values of an expression that have the same sort are equal
 same_value : (e : Located) (a b : Plain) (s : Sort) → IsOfSort a s → IsOfSort b s → HasValue e a → HasValue e b → a ≡ b
 same_value e _ _ _ a_null a_null p q = refl
 same_value e _ _ _ a_null (a_boolean b) p q = absurd (null_differs b (sym p.1 ∙ q.1))
@@ -130,7 +130,7 @@ same_value e _ _ _ a_set a_set p q = refl
 one_value : (e : Located) (a b : Plain) → HasValue e a → HasValue e b → a ≡ b
 one_value e a b p q = same_value e a b (sort_at e) (value_sort e a p) (value_sort e b q) p q
 
--- a child node has at most one value inside, with one name
+-- a child node has at most one name and value
 one_part : (own : Plain) (child : Located) (m n : List ℕ) (i j : Located) → IsPart own child m i → IsPart own child n j → (m ≡ n) × (i ≡ j)
 one_part null child m n i j p q = (p.0 ∙ sym q.0, sym p.1 ∙ q.1)
 one_part (boolean b) child m n i j p q = (p.0 ∙ sym q.0, sym p.1 ∙ q.1)
@@ -140,14 +140,14 @@ one_part (text t) child m n i j p q = (p.0 ∙ sym q.0, sym p.1 ∙ q.1)
 one_part list child m n i j p q = (p.0 ∙ sym q.0, sym p.1 ∙ q.1)
 one_part set child m n i j p q = (ap (λ o. unwrap_or o []) (sym p.1 ∙ q.1), ap (λ o. unwrap_or o child) (sym p.2 ∙ q.2))
 
--- nodes each of which means at most one list of values mean at most one in order
+-- if each node means at most one list of values, so do nodes one after another
 one_order : (means : Located → List Entry → Type 0) → ((node : Located) (a b : List Entry) → means node a → means node b → a ≡ b) →
     (nodes : List Located) (a b : List Entry) → InOrder means nodes a → InOrder means nodes b → a ≡ b
 one_order means one [] a b p q = p ∙ sym q
 one_order means one (node ∷ nodes) a b p q =
     p.4 ∙ ap₂ (λ xs ys. xs ++ ys) (one node p.0 q.0 p.2 q.2) (one_order means one nodes p.1 q.1 p.3 q.3) ∙ sym q.4
 
--- so does a child node, if what is inside it does
+-- a child node means at most one list of values, if its value does
 one_inside : (means : List ℕ → Located → List Entry → Type 0) →
     ((name : List ℕ) (e : Located) (a b : List Entry) → means name e a → means name e b → a ≡ b) →
     (own : Plain) (child : Located) (a b : List Entry) → MeansPart means own child a → MeansPart means own child b → a ≡ b
@@ -155,7 +155,7 @@ one_inside means one own child a b p q =
     let same = one_part own child p.0 q.0 p.1 q.1 p.2 q.2 in
     one p.0 p.1 a b p.3 (subst (λ n. means n p.1 b) (sym same.0) (subst (λ i. means q.0 i b) (sym same.1) q.3))
 
--- an entry of these parts
+-- an entry with these parts
 abbrev entry_with : ℕ → List ℕ → Plain → Entry
 entry_with d n p = record { depth = d; name = n; plain = p }
 
@@ -176,7 +176,7 @@ one_meaning (suc levels) depth name e a b p q =
     (subst (λ h. InOrder (MeansPart (Means levels (depth + 1)) h) (parts_of h (unwrapped e)) q.1) (sym plains) q.3) in
     p.4 ∙ ap₂ (λ x xs. x ∷ xs) heads insides ∙ sym q.4
 
--- an expression, if there is one, means at most one list of values
+-- an expression that was found means at most one list of values
 one_found : (found : Option Located) (levels : ℕ) (a b : List Entry) → IsSomeAnd found (λ e. Means levels 0 [] e a) →
     IsSomeAnd found (λ e. Means levels 0 [] e b) → a ≡ b
 one_found None levels a b p q = absurd p
@@ -186,7 +186,7 @@ one_found (Some e) levels a b p q = one_meaning levels 0 [] e a b p q
 abbrev root_at : Tree → Located
 root_at t = record { tree = t; number = 0 }
 
--- a text means at most one list of values, if it is read in one way
+-- a text means at most one list of values, if it has only one reading
 pub one_written : ((ls : List Lexeme) (t u : Tree) (ds es : List Fault) → IsReading ls t ds → IsReading ls u es → (t ≡ u) × (ds ≡ es)) →
     (bytes : List ℕ) (a b : List Entry) → IsWritten bytes a → IsWritten bytes b → a ≡ b
 one_written one bytes a b p q =

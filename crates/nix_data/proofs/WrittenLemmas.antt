@@ -12,12 +12,12 @@ use Rattle.nix_data.specs.Added.{HasData}
 use Rattle.nix_data.specs.Written.{IsMeant, IsWritten, IsData}
 use Rattle.nix_data.specs.Misread.{IsReadAlike}
 
--- what has no elements has none that are mapped
+-- mapping a list of length 0 returns an empty list
 mapped_none : {X Y : Type 0} (f : X → Y) (xs : List X) → length xs ≡ 0 → map f xs ≡ []
 mapped_none f [] none = refl
 mapped_none f (x ∷ xs) none = absurd (omega (arith, none))
 
--- an expression means all values if none is left
+-- if no values remain, the expression means all of them
 pub meant : {X : Type 0} (levels : ℕ) (found : Option Located) (e node : Located) (entries : List Entry) (f : X → Entry) (rest : List X) → Some e ≡ found →
     node ≡ e → length rest ≡ 0 → MeansFirst levels 0 [] node entries (map f rest) → IsSomeAnd found (λ e. Means levels 0 [] e entries)
 meant levels found e node entries f rest is same none means =
@@ -25,7 +25,7 @@ meant levels found e node entries f rest is same none means =
     subst (λ o. IsSomeAnd o (λ e. Means levels 0 [] e entries)) is
     (subst (λ n. Means levels 0 [] n entries) same (subst (Means levels 0 [] node) (sym all) means.1))
 
--- a text that is parsed without errors, as a tree that Nix reads alike and whose expression means some values
+-- a text is written Nix if it is parsed without errors, Nix reads its tokens alike, and its expression means these values
 pub written : (text : List ℕ) (read : Reading) (root : Located) (entries : List Entry) → IsParsed (tokens_of text) read.tree read.faults →
     (read.faults ≡ []) × (root ≡ root_of read) → IsReadAlike root → IsMeant root entries → IsWritten text entries
 written text read root entries parsed fine alike means = record {
@@ -36,7 +36,7 @@ written text read root entries parsed fine alike means = record {
   is_meant = subst (λ r. IsMeant r entries) fine.1 means;
 }
 
--- a text that is parsed without errors, as a tree that Nix reads alike and that has these data
+-- a text has these data if it is parsed without errors, Nix reads its tokens alike, and its tree has them
 pub data_alike : (text : List ℕ) (read : Reading) (root : Located) (entries : List Entry) → IsParsed (tokens_of text) read.tree read.faults →
     (read.faults ≡ []) × (root ≡ root_of read) → IsReadAlike root → HasData root entries → IsData text entries
 data_alike text read root entries parsed fine alike has = record {

@@ -1,4 +1,4 @@
--- The values that a Nix text has: those that its expression adds to none. Attributes of one set that the text defines in several places are together.
+-- The values that a Nix text defines: those that its expression adds to an empty list. The attributes of a set may be defined in several places.
 use Rattle.std.specs.Prelude.{◌≡◌, ℕ, zero, suc, List, [], ◌∷◌, ◌++◌, length, Option, Some, None, is_some, option_map, option_and_then, if◌then◌else◌}
 use Rattle.rnix_kinds.specs.declared.kinds.SyntaxKind.{SyntaxKind}
 use Rattle.rnix_kinds.specs.declared.kinds.SyntaxKind.TheVariants as k
@@ -13,19 +13,19 @@ use Rattle.nix_values.specs.Preorder.{preorder}
 use Rattle.nix_data.specs.declared.nix_reader.TheConstants.{LEVELS}
 use Rattle.nix_data.specs.Scalars.{scalar_of, key_of}
 
--- where an expression adds its value: outermost, inside the list or set with a number, or as the attribute of a set that has a name
+-- where an expression adds its value: outermost, in the list or set with a number, or as an attribute with a name in a set
 pub data Place : Type 0 where
   outermost : Place
   inside : ℕ → Place
   attribute : ℕ → List ℕ → Place
 
--- the number of the value around a place
+-- the number of the value that contains a place
 abbrev pub parent_at : Place → Option ℕ
 parent_at outermost = None
 parent_at (inside number) = Some number
 parent_at (attribute number name) = Some number
 
--- the name of what is added at a place
+-- the name of a value that is added at a place
 abbrev pub name_at : Place → List ℕ
 name_at outermost = []
 name_at (inside number) = []
@@ -37,23 +37,24 @@ present_at outermost values = None
 present_at (inside number) values = None
 present_at (attribute number name) values = attribute_of values number name
 
--- the values with one more at a place
+-- the values, followed by one that is added at a place
 abbrev pub with_value : Place → Plain → List Built → List Built
 with_value place plain values = values ++ record { parent = parent_at place; name = name_at place; plain = plain } ∷ []
 
--- a value is added at a place, where none may be already
+-- the values after a value is added at a place, unless there is one already
 abbrev pub value_added : Place → Plain → List Built → Option (List Built)
 value_added place plain values = if is_some (present_at place values) then None else Some (with_value place plain values)
 
--- the number of the set at a place, and the values with it: the set that is there already, or else a new one
+-- the number of the set at a place, and the values with it: the set that is already there, or else a new one
 abbrev pub set_if : Option ℕ → Place → List Built → Option (ℕ × List Built)
 set_if None place values = Some (length values, with_value place set values)
 set_if (Some number) place values = if is_set_at values number then Some (number, values) else None
 
+-- the same for what is at the place among some values
 abbrev pub set_at : Place → List Built → Option (ℕ × List Built)
 set_at place values = set_if (present_at place values) place values
 
--- where the value of an entry is added, if its path has this name and then these: each name but the last is that of a set inside the one before
+-- where the value of an entry is added, if its path begins with this name and continues with these: each name but the last is that of a set in the one before
 abbrev pub path_from : ℕ → List ℕ → List Located → List Built → Option (Place × List Built)
 path_from number name [] values = Some (attribute number name, values)
 path_from number name (next ∷ attributes) values =
@@ -61,22 +62,22 @@ path_from number name (next ∷ attributes) values =
     (λ inner. option_and_then (λ next_name. path_from inner.0 next_name attributes inner.1) (key_of next))
     (set_at (attribute number name) values)
 
--- where a path leads from a set
+-- the place to which a path leads from a set
 abbrev pub path_in : ℕ → List Located → List Built → Option (Place × List Built)
 path_in number [] values = None
 path_in number (first ∷ attributes) values = option_and_then (λ name. path_from number name attributes values) (key_of first)
 
--- where an entry inside a set adds its value
+-- the place at which an entry in a set adds its value
 abbrev pub entry_place : Place → Located → List Built → Option (Place × List Built)
 entry_place (inside number) e values =
     option_and_then (λ path. path_in number (nodes_of is_attr path) values) (child_of (same_kind k.NODE_ATTRPATH) 0 e)
 entry_place place e values = None
 
--- the values with that of an expression that is neither a list nor a set; the nodes inside it add none
+-- the values after an expression that is neither a list nor a set adds its own; the nodes inside it add none
 abbrev pub scalar_begun : Place → Located → List Built → Option (Option Place × List Built)
 scalar_begun place e values = option_and_then (λ plain. option_map (λ more. (None, more)) (value_added place plain values)) (scalar_of e)
 
--- what a node of a kind adds itself: the values then, and where the nodes inside it add theirs, if they add any
+-- the values after a node of a kind adds its own, and the place at which the nodes inside it add theirs, if they add any
 abbrev pub begun_as : SyntaxKind → Place → Located → List Built → Option (Option Place × List Built)
 begun_as k.NODE_ROOT place e values = Some (Some place, values)
 begun_as k.NODE_PAREN place e values = Some (Some place, values)
@@ -87,28 +88,29 @@ begun_as k.NODE_ATTRPATH_VALUE place e values = option_map (λ found. (Some foun
 begun_as k.NODE_ATTRPATH place e values = Some (None, values)
 begun_as _ place e values = scalar_begun place e values
 
+-- the same by the kind that it has
 abbrev pub begun : Place → Located → List Built → Option (Option Place × List Built)
 begun place e values = begun_as (item_of e).kind place e values
 
--- nodes add their values at a place, one after the other
+-- the values after some nodes have added theirs at a place, one after another
 abbrev pub all_added : (Place → Located → List Built → Option (List Built)) → Place → List Located → List Built → Option (List Built)
 all_added add place [] values = Some values
 all_added add place (node ∷ nodes) values = option_and_then (all_added add place nodes) (add place node values)
 
--- the nodes inside a node add their values, if they add any
+-- the values after the nodes inside a node have added theirs, if they add any
 abbrev pub inside_added : (Place → Located → List Built → Option (List Built)) → Located → Option Place × List Built → Option (List Built)
 inside_added add e (None, values) = Some values
 inside_added add e (Some place, values) = all_added add place (nodes_in (children_of e)) values
 
--- the values with those that a node adds at a place: its own, followed by those of the nodes inside it, which nest less than `levels` deep
+-- the values after a node has added its own and those of the nodes inside it, which nest less than `levels` deep
 unfoldable pub added : ℕ → Place → Located → List Built → Option (List Built)
 added zero place e values = None
 added (suc levels) place e values = option_and_then (inside_added (added levels) e) (begun place e values)
 
--- the values of a tree, in the order in which the text writes them
+-- the values of a tree, in the order in which the text defines them
 abbrev pub values_of : Located → Option (List Built)
 values_of root = added LEVELS outermost root []
 
--- the data of a tree are these: each value is followed by the values inside it
+-- these are the data of a tree: each value is followed by the values inside it
 abbrev pub HasData : Located → List Entry → Type 0
 HasData root entries = option_map preorder (values_of root) ≡ Some entries

@@ -18,7 +18,7 @@ use Rattle.nix_values.specs.Contents.{Plain, null, boolean, integer, float, text
 use Rattle.nix_values.specs.Floats.{is_held}
 use Rattle.nix_data.specs.Misread.{is_altered}
 
--- the value in Nix of an expression that is a string without interpolations, unless Nix changes the string
+-- the value of an expression that is a string without interpolations, unless Nix changes the string
 abbrev pub expression_text : Located → Option (List ℕ)
 expression_text e = if is_altered (text_at e) then None else (if same_kind k.NODE_STRING (item_of e).kind then plain_value e else None)
 
@@ -36,11 +36,11 @@ abbrev pub is_float : Option LiteralKind → Bool
 is_float (Some (literal.Float token)) = true
 is_float _ = false
 
--- an expression is a literal that passes a test, perhaps with a sign
+-- an expression is a literal that passes a test, possibly with a sign
 abbrev pub IsNumber : (Option LiteralKind → Bool) → Located → Type 0
 IsNumber is_sort e = HasKind k.NODE_LITERAL (unsigned e) × (is_sort (first_literal (unsigned e)) ≡ true)
 
--- the word for a truth value
+-- the keyword for a truth value
 abbrev pub word_of : Bool → List ℕ
 word_of b = if b then codes "true" else codes "false"
 
@@ -54,7 +54,7 @@ HasValue e (text t) = expression_text e ≡ Some t
 HasValue e list = HasKind k.NODE_LIST e
 HasValue e set = HasKind k.NODE_ATTR_SET e × (token_of (same_kind k.TOKEN_REC) e ≡ None)
 
--- the name that a node of a kind represents
+-- the name that a node of a kind denotes
 abbrev pub name_of_kind : SyntaxKind → Located → Option (List ℕ)
 name_of_kind k.NODE_IDENT e = Some (text_at e)
 name_of_kind k.NODE_STRING e = expression_text e
@@ -64,17 +64,17 @@ name_of_kind _ e = None
 abbrev pub name_of : Located → Option (List ℕ)
 name_of e = name_of_kind (item_of e).kind e
 
--- the name of the attribute in a list, if there is exactly one
+-- the name of the only attribute in the list, if there is exactly one
 abbrev pub single_name : List Located → Option (List ℕ)
 single_name (e ∷ []) = name_of e
 single_name attributes = None
 
--- the name in a path, if there is a path and it is a single name
+-- the name in a path, if the path exists and is a single name
 abbrev pub path_name : Option Located → Option (List ℕ)
 path_name None = None
 path_name (Some path) = single_name (nodes_of is_attr path)
 
--- the name and the value that a child node holds: in a set it is an entry with both; in a list it is the value, without a name
+-- the name and the value in a child node: in a set, the child is an entry with both; in a list, it is the value, and has no name
 abbrev pub IsPart : Plain → Located → List ℕ → Located → Type 0
 IsPart set child name inner =
     HasKind k.NODE_ATTRPATH_VALUE child × (path_name (child_of (same_kind k.NODE_ATTRPATH) 0 child) ≡ Some name) × (child_of is_expr 0 child ≡ Some inner)
@@ -97,13 +97,13 @@ parts_of own e = if has_parts own then nodes_in (children_of e) else []
 abbrev pub unwrapped : Located → Located
 unwrapped e = if same_kind k.NODE_PAREN (item_of e).kind then unwrap_or (child_of is_expr 0 e) e else e
 
--- nodes mean values, one node after the other
+-- nodes mean these values, one node after another
 abbrev pub InOrder : (Located → List Entry → Type 0) → List Located → List Entry → Type 0
 InOrder means [] entries = entries ≡ []
 InOrder means (node ∷ nodes) entries =
     (own : List Entry) × (others : List Entry) × means node own × InOrder means nodes others × (entries ≡ own ++ others)
 
--- a child node of an expression with this value means values
+-- a child node of an expression with the value `own` means these values
 abbrev pub MeansPart : (List ℕ → Located → List Entry → Type 0) → Plain → Located → List Entry → Type 0
 MeansPart means own child entries = (name : List ℕ) × (inner : Located) × IsPart own child name inner × means name inner entries
 
@@ -119,10 +119,10 @@ Means (suc levels) depth name e entries =
     × InOrder (MeansPart (Means levels (depth + 1)) head.plain) (parts_of head.plain (unwrapped e)) inside × (entries ≡ head ∷ inside)
     × HaveDifferentNames head.plain (parts_of head.plain (unwrapped e))
 
--- an expression means the first of some values; these are the rest
+-- an expression means the first of these values, and `rest` follows them
 abbrev pub MeansFirst : ℕ → ℕ → List ℕ → Located → List Entry → List Entry → Type 0
 MeansFirst levels depth name e entries rest = (own : List Entry) × Means levels depth name e own × (entries ≡ own ++ rest)
 
--- an expression means the first of some items; these are the rest
+-- an expression means the first of these items, and `rest` follows them
 abbrev pub MeansItems : ℕ → ℕ → List ℕ → Located → List Item → List Item → Type 0
 MeansItems levels depth name e items rest = MeansFirst levels depth name e (map entry_of items) (map entry_of rest)

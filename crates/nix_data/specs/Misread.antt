@@ -11,7 +11,7 @@ use Rattle.rnix_green.specs.Walk.{Spot, elements_of}
 abbrev pub is_blank : ℕ → Bool
 is_blank byte = byte == 32 || (byte == 10 || (byte == 9 || byte == 13))
 
--- after a carriage return, or after the first one in the text, something other than white space follows
+-- something other than white space follows a carriage return, which is in the text or was read before it
 abbrev pub has_text_after_return : Bool → List ℕ → Bool
 has_text_after_return returned [] = false
 has_text_after_return returned (byte ∷ bytes) = if returned && not (is_blank byte) then true else has_text_after_return (returned || byte == 13) bytes
@@ -20,7 +20,7 @@ has_text_after_return returned (byte ∷ bytes) = if returned && not (is_blank b
 abbrev pub ends_early : List ℕ → Bool
 ends_early text = slice_index text 0 == 35 && has_text_after_return false text
 
--- a float begins with `0.`, and no digit follows
+-- a float begins with `0.` and has no digit after it
 abbrev pub lacks_digit : List ℕ → Bool
 lacks_digit text = slice_index text 0 == 48 && (slice_index text 1 == 46 && not (is_ascii_digit (slice_index text 2)))
 
@@ -31,7 +31,7 @@ is_misread k.TOKEN_COMMENT text = ends_early text
 is_misread k.TOKEN_FLOAT text = lacks_digit text
 is_misread kind text = false
 
--- Nix changes a string: it cuts the string at the character 0, and reads a carriage return in `"` as a line feed
+-- Nix changes a string: it ends the string at the character 0, and reads a carriage return in `"` as a line feed
 abbrev pub is_altered : List ℕ → Bool
 is_altered source = list_any (λ b. b == 0) source || (slice_index source 0 == 34 && list_any (λ b. b == 13) source)
 

@@ -23,22 +23,22 @@ named name =
     if bytes_eq name (codes "null") then Some null
     else (if bytes_eq name (codes "true") then Some (boolean true) else (if bytes_eq name (codes "false") then Some (boolean false) else None))
 
--- the integer that digits write, negated or not
+-- the integer that digits represent, negated if the flag is set
 abbrev pub integer_of : Bool → List ℕ → Plain
 integer_of is_negative digits = integer (if is_negative then neg_ℤ (signed_digits_value 10 digits) else signed_digits_value 10 digits)
 
--- the text of a number, with a sign if it is negated
+-- the text of a number, with a minus sign if it is negated
 abbrev pub signed : Bool → List ℕ → List ℕ
 signed is_negative digits = (if is_negative then codes "-" else []) ++ digits
 
--- the value of a literal, negated or not; a URI is its text, and cannot be negated
+-- the value of a literal, negated if the flag is set; the value of a URI is its text, and cannot be negated
 abbrev pub literal_value : Bool → Option LiteralKind → Option Plain
 literal_value is_negative None = None
 literal_value is_negative (Some (literal.Integer token)) = Some (integer_of is_negative (text_at token))
 literal_value is_negative (Some (literal.Float token)) = option_map float (float_text (signed is_negative (text_at token)))
 literal_value is_negative (Some (literal.Uri token)) = if is_negative then None else Some (text (text_at token))
 
--- the negated value of an operand: a literal
+-- the negated value of an operand, which must be a literal
 abbrev pub negated_of_kind : SyntaxKind → Located → Option Plain
 negated_of_kind k.NODE_LITERAL e = literal_value true (first_literal e)
 negated_of_kind _ e = None
@@ -48,6 +48,7 @@ abbrev pub operation_value : Option UnaryOpKind → Option Located → Option Pl
 operation_value (Some Negate) (Some operand) = negated_of_kind (item_of operand).kind operand
 operation_value operator operand = None
 
+-- the same for the operation that a node is
 abbrev pub operation_of : Located → Option Plain
 operation_of e = operation_value (first_operator unary_operator (tokens_in (children_of e))) (child_of is_expr 0 e)
 
@@ -71,13 +72,13 @@ scalar_of_kind _ e = None
 abbrev pub scalar_of : Located → Option Plain
 scalar_of e = scalar_of_kind (item_of e).kind e
 
--- the name that an attribute of a kind writes
+-- the name that an attribute of a kind denotes
 abbrev pub key_of_kind : SyntaxKind → Located → Option (List ℕ)
 key_of_kind k.NODE_IDENT e = Some (text_at e)
 key_of_kind k.NODE_STRING e = expression_text e
 key_of_kind k.NODE_DYNAMIC e = option_and_then expression_text (child_of is_expr 0 e)
 key_of_kind _ e = None
 
--- the name that an attribute of a path writes: `a`, `"a"` or `${"a"}`
+-- the name that an attribute in a path denotes: `a`, `"a"` or `${"a"}`
 abbrev pub key_of : Located → Option (List ℕ)
 key_of e = key_of_kind (item_of e).kind e

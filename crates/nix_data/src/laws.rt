@@ -6,7 +6,7 @@ ghost use Rattle.nix_data.specs.Written.{IsWritten};
 
 use rnix::laws::one_reading;
 
-/// A text means at most one data: the values that a text means are equal, in the same order, with the same depths and names.
+/// A text means at most one list of values: if it means two, these are equal, in order, with the same depths and names.
 pub fn one_meaning()
     ensures { (text : List ℕ) (one other : List Entry) → IsWritten text one → IsWritten text other → one ≡ other }
 {

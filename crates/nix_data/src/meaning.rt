@@ -1,4 +1,4 @@
-//! Whether an expression means some data.
+//! Whether an expression means given data.
 
 ghost use Rattle.std.specs.Prelude.{◌≡◌, Some, None, option_map, string_bytes, IfOk, IfSome, IsTrue};
 ghost use Rattle.rnix_kinds.specs.declared.kinds.SyntaxKind.TheVariants as k;
@@ -20,7 +20,7 @@ use rnix::{SyntaxKind, SyntaxNode};
 use std::alloc::{AllocError, Global};
 use std::collections::BTreeSet;
 
-// The least number above the integers that Nix can write.
+// The smallest number above the integers that Nix can write.
 const INTEGERS_END: u64 = 1 << 63;
 
 // Returns the value of an expression that is a string without interpolations, unless Nix changes it.
@@ -36,7 +36,7 @@ fn expression_text(alloc: Global, node: &SyntaxNode<'_>) -> Result<Option<String
     }
 }
 
-// Returns the operand of an operation in front of it; any other expression is its own.
+// Returns the operand of a prefix operation; returns any other expression itself.
 fn unsigned<'t>(node: &SyntaxNode<'t>) -> SyntaxNode<'t>
     ensures { result ≡ unsigned node.now }
 {
@@ -49,7 +49,7 @@ fn unsigned<'t>(node: &SyntaxNode<'t>) -> SyntaxNode<'t>
     }
 }
 
-// Returns the literal that an expression is, without a sign.
+// Returns the literal of an expression without its sign.
 fn literal_of<'t>(node: &SyntaxNode<'t>) -> Option<LiteralKind<'t>>
     ensures { IfSome result (λ found. HasKind k.NODE_LITERAL (unsigned node.now) × (first_literal (unsigned node.now) ≡ Some found)) }
 {
@@ -59,7 +59,7 @@ fn literal_of<'t>(node: &SyntaxNode<'t>) -> Option<LiteralKind<'t>>
     }
 }
 
-// Returns whether an expression is an integer, perhaps with a sign.
+// Returns whether an expression is an integer, possibly with a sign.
 fn is_integer(node: &SyntaxNode<'_>) -> bool
     ensures { IsTrue result → IsNumber is_integer node.now }
 {
@@ -69,7 +69,7 @@ fn is_integer(node: &SyntaxNode<'_>) -> bool
     }
 }
 
-// Returns whether an expression is a float, perhaps with a sign.
+// Returns whether an expression is a float, possibly with a sign.
 fn is_float(node: &SyntaxNode<'_>) -> bool
     ensures { IsTrue result → IsNumber is_float node.now }
 {
@@ -86,7 +86,7 @@ fn is_word(node: &SyntaxNode<'_>, word: &str) -> bool
     Ident::can_cast(node.kind()) && node.text() == word
 }
 
-// Returns the word for a truth value.
+// Returns the keyword for a truth value.
 fn word_of(is_true: bool) -> &'static str
     ensures { result.now ≡ word_of is_true }
 {
@@ -129,7 +129,7 @@ fn has_value(alloc: Global, node: &SyntaxNode<'_>, value: &Value) -> Result<bool
     }
 }
 
-// Returns the name that an attribute is: an identifier, or a string without interpolations.
+// Returns the name of an attribute that is an identifier or a string without interpolations.
 fn name_of(alloc: Global, attribute: &SyntaxNode<'_>) -> Result<Option<String>, AllocError>
     ensures { IfOk result (λ found. option_map string_bytes found ≡ name_of attribute.now) }
 {
@@ -140,7 +140,7 @@ fn name_of(alloc: Global, attribute: &SyntaxNode<'_>) -> Result<Option<String>, 
     }
 }
 
-// Returns the name that a path is, if it is a single name.
+// Returns the name in a path, if the path is a single name.
 fn path_name(alloc: Global, path: Option<Attrpath<'_>>) -> Result<Option<String>, AllocError>
     ensures { IfOk result (λ found. option_map string_bytes found ≡ path_name path.entry) }
 {
@@ -181,7 +181,7 @@ fn attribute<'t>(alloc: Global, child: SyntaxNode<'t>) -> Result<Option<Part<'t>
     }
 }
 
-// Returns the value that a child node of a list or a set has.
+// Returns the value in a child node of a list or a set.
 fn part_in<'t>(
     alloc: Global,
     around: &Value,
@@ -227,7 +227,7 @@ fn is_head(
     has_value(alloc, node, &item.value)
 }
 
-// Adds a name to those of the entries of a set so far, and returns whether it was not among them. In a list any name is new.
+// Adds a name to those of the entries of a set so far, and returns whether it is new. In a list, every name is new.
 #[tactic(auto, using(crate::proofs::DifferentNames::new_name))]
 fn is_new(around: &Value, names: &mut BTreeSet<String>, name: String) -> Result<bool, AllocError>
     ensures { IfOk result (λ is_new. IsTrue is_new → IsNewName (plain_of around.now) names.old (string_bytes name) names.new) }
@@ -238,8 +238,8 @@ fn is_new(around: &Value, names: &mut BTreeSet<String>, name: String) -> Result<
     }
 }
 
-/// Returns the items that follow those that an expression means: its own and those inside it. Returns `None` if the items do not begin with
-/// these, if they nest `levels` deep, or if two entries of a set have the same name.
+/// Returns the items after those that an expression means: its own and those inside it. Returns `None` if the items do not begin with
+/// these, if they nest at least `levels` deep, or if two entries of a set have the same name.
 pub fn items_after<'a>(
     alloc: Global,
     levels: usize,

@@ -1,4 +1,4 @@
-//! Tokens that Nix reads otherwise.
+//! Tokens that Nix reads differently.
 
 ghost use Rattle.std.specs.Prelude.{◌≡◌, ◌==◌, not, false, is_some, slice_index};
 ghost use Rattle.std.specs.List.{list_all, list_any};
@@ -15,7 +15,7 @@ fn is_blank(byte: u8) -> bool
     byte == b' ' || byte == b'\n' || byte == b'\t' || byte == b'\r'
 }
 
-// Returns the number of the first byte that is not white space for Nix.
+// Returns the index of the first byte that is not white space for Nix.
 fn foreign(text: &[u8]) -> Option<usize>
     ensures { is_some result ≡ not (list_all is_blank text.now) }
 {
@@ -27,7 +27,7 @@ fn foreign(text: &[u8]) -> Option<usize>
     None
 }
 
-// Returns the number of the first carriage return, if something other than white space follows it.
+// Returns the index of the first carriage return, if something other than white space follows it.
 fn early_return(text: &[u8]) -> Option<usize>
     ensures { is_some result ≡ has_text_after_return false text.now }
 {
@@ -44,7 +44,7 @@ fn early_return(text: &[u8]) -> Option<usize>
     None
 }
 
-// Returns the byte with a number, 0 if there is none.
+// Returns the byte at an index, or 0 if there is none.
 fn byte_at(text: &[u8], index: usize) -> u8
     ensures { result ≡ slice_index text.now index }
 {
@@ -54,7 +54,7 @@ fn byte_at(text: &[u8], index: usize) -> u8
     }
 }
 
-// Returns the offset of the carriage return at which a `#` comment ends for Nix, if the comment continues after it.
+// Returns the index of the carriage return at which a `#` comment ends for Nix, if the comment continues after it.
 fn early_end(text: &[u8]) -> Option<usize>
     ensures { is_some result ≡ ends_early text.now }
 {
@@ -65,21 +65,21 @@ fn early_end(text: &[u8]) -> Option<usize>
     }
 }
 
-// Returns whether a float begins with `0.`, and no digit follows.
+// Returns whether a float begins with `0.` and has no digit after it.
 fn lacks_digit(text: &[u8]) -> bool
     ensures { result ≡ lacks_digit text.now }
 {
     byte_at(text, 0) == b'0' && byte_at(text, 1) == b'.' && !byte_at(text, 2).is_ascii_digit()
 }
 
-// Returns whether a byte is in a text.
+// Returns whether a text contains a byte.
 fn has_byte(text: &[u8], wanted: u8) -> bool
     ensures { result ≡ list_any (λ b. b == wanted) text.now }
 {
     text.iter().any(|byte| *byte == wanted)
 }
 
-/// Returns whether Nix changes a string with this source: it has the character 0, or it is in `"` and has a carriage return.
+/// Returns whether Nix changes a string with this source: it contains the character 0, or it is in `"` and contains a carriage return.
 pub fn is_altered(source: &str) -> bool
     ensures { result ≡ is_altered source.now }
 {
@@ -87,7 +87,7 @@ pub fn is_altered(source: &str) -> bool
     has_byte(bytes, 0) || (byte_at(bytes, 0) == b'"' && has_byte(bytes, b'\r'))
 }
 
-// Returns the number of the byte from which Nix reads a token otherwise, if it does.
+// Returns the index of the byte from which Nix reads a token differently, if it does.
 fn misread_from(kind: SyntaxKind, text: &[u8]) -> Option<usize>
     ensures { is_some result ≡ is_misread kind text.now }
 {
@@ -99,7 +99,7 @@ fn misread_from(kind: SyntaxKind, text: &[u8]) -> Option<usize>
     }
 }
 
-// Returns why Nix reads a token of a kind otherwise, and how many bytes of a text are to be shown for that.
+// Returns why Nix reads a token of a kind differently, and how many bytes of the text to show.
 fn reason_for(kind: SyntaxKind, text: &str) -> (Reason, usize) {
     let first = text.chars().next().map_or(0, |letter| letter.len_utf8());
     match kind {
@@ -109,7 +109,7 @@ fn reason_for(kind: SyntaxKind, text: &str) -> (Reason, usize) {
     }
 }
 
-/// Returns why Nix reads a token otherwise, and where, if it does.
+/// Returns why Nix reads a token differently, and where, if it does.
 pub fn misread(token: &SyntaxToken<'_>) -> Option<NoData>
     ensures { is_some result ≡ is_misread (item_of token.now).kind (text_at token.now) }
 {

@@ -8,7 +8,7 @@ const KEYWORDS: [&str; 10] = [
     "assert", "else", "if", "in", "inherit", "let", "or", "rec", "then", "with",
 ];
 
-// Returns whether an identifier may contain a byte after its first.
+// Returns whether an identifier may contain a byte after its first one.
 fn is_in_name(byte: u8) -> bool {
     byte.is_ascii_alphanumeric() || matches!(byte, b'_' | b'-' | b'\'')
 }

@@ -21,7 +21,7 @@ use rnix::ast::{AstNode, Attr, AttrSet, Attrpath, AttrpathValue, Inherit};
 use rnix::{NodeOrToken, Root, SyntaxKind, SyntaxNode, SyntaxToken, TextRange};
 use std::alloc::{AllocError, Global};
 
-// The most levels of nodes that are read: more than the parser accepts, where a list or a set inside another is at most two levels below it.
+// The largest number of levels of nodes that are read. The parser accepts fewer: a list or a set is at most two levels below the one around it.
 const LEVELS: usize = 2048;
 
 // How a text is read. If it is lossy, what is not data becomes its source.
@@ -31,7 +31,7 @@ struct Reader {
     is_lossy: bool,
 }
 
-// Refuses a token that Nix reads otherwise.
+// Refuses a token that Nix reads differently.
 fn check(token: &SyntaxToken<'_>) -> Result<(), Stop>
     ensures { OnOk result (is_misread (item_of token.now).kind (text_at token.now) ≡ false) }
 {
@@ -41,7 +41,7 @@ fn check(token: &SyntaxToken<'_>) -> Result<(), Stop>
     }
 }
 
-// Refuses a token inside a node that Nix reads otherwise.
+// Refuses a token inside a node that Nix reads differently.
 fn check_tokens(node: &SyntaxNode<'_>) -> Result<(), Stop>
     ensures { OnOk result (IsReadAlike node.now) }
 {
@@ -130,7 +130,7 @@ impl Reader {
         Ok(())
     }
 
-    // Adds a set, unless it is there already.
+    // Adds a set, unless it exists already.
     fn set(
         &self,
         values: &mut Values,
@@ -151,7 +151,7 @@ impl Reader {
         Ok(Some(Target::Inside(values.frame(number))))
     }
 
-    // Reads a path of an entry of a set, and adds the sets that it leads through. Returns the place of the entry's value.
+    // Reads the path of an entry of a set, and adds the sets on the path. Returns the place of the entry's value.
     fn path(&self, values: &mut Values, frame: Frame, path: &Attrpath<'_>) -> Result<Target, Stop>
         ensures { IfOk result (λ target. self.now.is_lossy ≡ false →
             (place : Place) × IsAt target place
@@ -193,8 +193,8 @@ impl Reader {
         }
     }
 
-    // Returns the value of a name of an `inherit`: for the first one its source, for any other an `inherit` of that name, with `..` in place of what it
-    // inherits from.
+    // Returns the value for a name in an `inherit`: for the first name the source of the `inherit`, for others an `inherit` of that name, with `..` for
+    // the expression from which it inherits.
     fn inherited(
         &self,
         inherit: &Inherit<'_>,
@@ -241,7 +241,7 @@ impl Reader {
         Ok(())
     }
 
-    // Adds what a node adds itself. Returns where the nodes inside it add their values, unless they add none.
+    // Adds the node's own value. Returns where the nodes inside it add their values, if they add any.
     fn begin(
         &self,
         values: &mut Values,
@@ -310,7 +310,7 @@ fn read(alloc: Global, root: &SyntaxNode<'_>, is_lossy: bool) -> Result<Data, St
 }
 
 /// Returns the data of a tree without errors, or the first part that is not data. If `is_lossy`, such a part becomes a string with its source, but
-/// a token that Nix reads otherwise is refused.
+/// a token that Nix reads differently is refused.
 pub fn data_in(
     alloc: Global,
     root: &SyntaxNode<'_>,

@@ -13,7 +13,7 @@ use rnix::ast::AstNode;
 use rnix_base::push_quoted;
 use std::alloc::{AllocError, Global};
 
-// The most levels of values that `nix_of` checks: more than the parser accepts.
+// The largest number of levels of values that `nix_of` checks. The parser accepts fewer.
 const LEVELS: usize = 1024;
 
 // A text that is being written, and for each open list or set whether it is a set, innermost last.
@@ -88,7 +88,7 @@ impl Writing {
         self.end_line()
     }
 
-    // Writes an item. `is_empty` is whether no item is inside it.
+    // Writes an item; `is_empty` tells whether no item is inside it.
     fn write(&mut self, item: &Item, is_empty: bool) -> Result<(), AllocError> {
         self.close(item.depth)?;
         push_indentation(self.open.len(), &mut self.text)?;
@@ -120,7 +120,7 @@ fn written(alloc: Global, data: &Data) -> Result<String, AllocError> {
     Ok(writing.text)
 }
 
-// Returns whether the expression of a tree means some data.
+// Returns whether the expression of a tree means the data.
 #[tactic(auto, using(crate::proofs::WrittenLemmas::meant))]
 fn is_meant(alloc: Global, root: &Root<'_>, whole: &Data) -> Result<bool, AllocError>
     ensures { IfOk result (λ is_meant. IsTrue is_meant → IsMeant root.now (contents whole.now)) }
@@ -134,7 +134,7 @@ fn is_meant(alloc: Global, root: &Root<'_>, whole: &Data) -> Result<bool, AllocE
     }
 }
 
-// Nix.
+// Nix as a notation for data.
 struct Nix;
 
 impl Notation for Nix {

@@ -27,7 +27,7 @@ pub enum Reason {
     ForeignSpace,
     /// A carriage return inside a `#` comment: for Nix, the comment ends there.
     EarlyEnd,
-    /// A float that begins with `0.` and has no digit there.
+    /// A float that begins with `0.` and has no digit after it.
     LacksDigit,
 }
 

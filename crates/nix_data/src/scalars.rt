@@ -95,7 +95,7 @@ fn string_value(alloc: Global, node: &SyntaxNode<'_>) -> Result<String, Stop>
     Ok(text)
 }
 
-// Returns the value of an integer, negated or not.
+// Returns the value of an integer, negated if `is_negative`.
 fn integer(number: &Integer<'_>, is_negative: bool) -> Result<Value, Stop>
     ensures { IfOk result (λ value. integer_of is_negative (text_at number.now) ≡ plain_of value) }
 {
@@ -112,7 +112,7 @@ fn integer(number: &Integer<'_>, is_negative: bool) -> Result<Value, Stop>
     }
 }
 
-// Returns the value of a float, negated or not.
+// Returns the value of a float, negated if `is_negative`.
 fn float(alloc: Global, number: &Float<'_>, is_negative: bool) -> Result<Value, Stop>
     ensures { IfOk result (λ value. literal_value is_negative (Some (literal.Float number.now)) ≡ Some (plain_of value)) }
 {
@@ -138,7 +138,7 @@ fn uri(alloc: Global, address: &Uri<'_>, is_negative: bool) -> Result<Value, Sto
     Ok(Value::Text(String::from_str(alloc, address.syntax().text())?))
 }
 
-// Returns the value of a number or a URI, negated or not.
+// Returns the value of a number or a URI, negated if `is_negative`.
 fn literal(alloc: Global, node: &SyntaxNode<'_>, is_negative: bool) -> Result<Value, Stop>
     ensures { IfOk result (λ value. literal_value is_negative (first_literal node.now) ≡ Some (plain_of value)) }
 {
@@ -218,7 +218,7 @@ pub fn scalar(alloc: Global, node: &SyntaxNode<'_>) -> Result<Value, Stop>
     }
 }
 
-// Returns the text of a computed name, if it is a string and nothing else.
+// Returns the text of a computed name, if it is a single string.
 fn dynamic(alloc: Global, node: &SyntaxNode<'_>) -> Result<String, Stop>
     ensures { IfOk result (λ text. option_and_then expression_text (child_of is_expr 0 node.now) ≡ Some (string_bytes text)) }
 {
@@ -233,7 +233,7 @@ fn dynamic(alloc: Global, node: &SyntaxNode<'_>) -> Result<String, Stop>
     }
 }
 
-/// Returns the name that an attribute of a path writes.
+/// Returns the name that an attribute in a path denotes.
 pub fn key(alloc: Global, node: &SyntaxNode<'_>) -> Result<String, Stop>
     ensures { IfOk result (λ text. key_of node.now ≡ Some (string_bytes text)) }
 {

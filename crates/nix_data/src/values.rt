@@ -50,7 +50,7 @@ pub enum Target {
     Inside(Frame),
     /// As an attribute.
     Attribute(Entry),
-    /// Nowhere: the one value that had this place was added.
+    /// Nowhere: this place was for one value, which has been added.
     Nowhere,
 }
 
@@ -92,7 +92,7 @@ impl Values {
         }
     }
 
-    /// Returns the list or the set with a number, whose text begins.
+    /// Returns the list or set with a number, whose text begins here.
     pub fn frame(&self, node: usize) -> Frame
         ensures { result.node ≡ node }
     {
@@ -166,7 +166,7 @@ impl Values {
         }
     }
 
-    /// Returns the set that is an attribute, which is added if there is none. A set with a number below `first` comes from elsewhere in the text.
+    /// Returns the set that is an attribute, adding it if there is none. A set with a number below `first` is defined elsewhere in the text.
     pub fn set_of(&mut self, alloc: Global, entry: Entry, first: usize) -> Result<usize, Stop>
         ensures { IfOk result (λ number.
             set_at (attribute entry.set (string_bytes entry.name.text)) (values_read self.old) ≡ Some (number, values_read self.new)) }
@@ -179,7 +179,7 @@ impl Values {
         }
     }
 
-    /// Returns the set at a place, which is added if there is none.
+    /// Returns the set at a place, adding it if there is none.
     pub fn set_at(&mut self, alloc: Global, target: Target, range: TextRange) -> Result<usize, Stop>
         ensures { IfOk result (λ number. (place : Place) → IsAt target place → set_at place (values_read self.old) ≡ Some (number, values_read self.new)) }
     {
@@ -189,7 +189,7 @@ impl Values {
         }
     }
 
-    /// Returns the place of an attribute that is not there yet, or is a set. A set with a number below `first` comes from elsewhere in the text.
+    /// Returns the place of an attribute that does not exist yet, or is a set. A set with a number below `first` is defined elsewhere in the text.
     pub fn attribute(&self, entry: Entry, first: usize) -> Result<Target, Stop>
         ensures { IfOk result (λ target. IsAt target (attribute entry.set (string_bytes entry.name.text))) }
     {
@@ -201,7 +201,7 @@ impl Values {
         Ok(Target::Attribute(entry))
     }
 
-    /// Returns the data that the values are.
+    /// Returns the values as data.
     pub fn finish(self, alloc: Global) -> Result<Data, AllocError>
         ensures { IfOk result (λ found. contents found ≡ preorder (values_read self)) }
     {

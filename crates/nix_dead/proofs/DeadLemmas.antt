@@ -1,4 +1,4 @@
--- Bindings that are not marked are those that are not used.
+-- The bindings that are not marked are those that are not used.
 use Rattle.std.proofs.Common.{◌≡◌, ℕ, suc, ◌+◌, ◌<◌, ◌==◌, List, [], ◌∷◌, ◌++◌, length, take, map, get_or, Bool, true, false, nat_eq, Some, refl, ap, sym, ◌∙◌, subst, arith}
 use Rattle.std.{proofs.{Common.append_assoc, lemmas.List.{append-nil, take_more, length-take-le, Sorted.IsPermutation-map}}, specs.Prelude.{◌&&◌, ◌||◌, not}}
 use Rattle.{std.specs.{Cow.cow_str_bytes, Prelude.if◌then◌else◌, List.{list_any, Sorted.IsPermutation}, BTreeSet.BTreeSet}, nix_scopes.specs.declared.resolution.Binding.Binding}
@@ -7,7 +7,7 @@ use Rattle.{nix_scopes.specs.Scopes.{number_in, bindings_in, resolved_in}, rnix_
 use Rattle.nix_dead.specs.Dead.{listed_name, refers, is_reportable, listed, is_used, is_dead, dead_from, dead_in, marked, AreMarked, unmarked, unmarked_from}
 use Rattle.nix_dead.specs.Dead.{is_pattern_name, scope_start, has_used_pattern_name, is_marked_pattern_name, has_marked_pattern_name, has_offset}
 
--- each offset is in the set exactly if a marked name of a whole pattern is of the function that starts there
+-- an offset is in the set exactly if the function that starts there has a marked name of its whole pattern
 abbrev pub AreUsedPatterns : List Bool → List Binding → BTreeSet ℕ → Type 0
 AreUsedPatterns marks bindings patterns = (start : ℕ) → has_offset patterns start ≡ has_marked_pattern_name marks start 0 bindings
 
@@ -19,7 +19,7 @@ or-assoc : (a b c : Bool) → (a || (b || c)) ≡ ((a || b) || c)
 or-assoc true b c = refl
 or-assoc false b c = refl
 
--- one binding more
+-- one more binding
 pub pattern_push : (marks : List Bool) (start n m : ℕ) (xs : List Binding) (x : Binding) → m ≡ n + length xs →
     has_marked_pattern_name marks start n (xs ++ x ∷ []) ≡ (has_marked_pattern_name marks start n xs || is_marked_pattern_name marks start m x)
 pattern_push marks start n m [] x is =
@@ -28,14 +28,14 @@ pattern_push marks start n m (y ∷ xs) x is =
     ap (λ rest. is_marked_pattern_name marks start n y || rest) (pattern_push marks start (n + 1) m xs x (omega (arith, is)))
     ∙ or-assoc (is_marked_pattern_name marks start n y) (has_marked_pattern_name marks start (n + 1) xs) (is_marked_pattern_name marks start m x)
 
--- one binding more of a list
+-- one more binding of a list
 pub pattern_more : (marks : List Bool) (start : ℕ) (xs : List Binding) (i : ℕ) (x : Binding) → i < length xs → x ≡ get_or xs i x →
     has_marked_pattern_name marks start 0 (take (i + 1) xs) ≡ (has_marked_pattern_name marks start 0 (take i xs) || is_marked_pattern_name marks start i x)
 pattern_more marks start xs i x l at =
     ap (has_marked_pattern_name marks start 0) (take_more xs i x l) ∙ ap (λ y. has_marked_pattern_name marks start 0 (take i xs ++ y ∷ [])) (sym at)
     ∙ pattern_push marks start 0 i (take i xs) x (omega (arith, length-take-le i xs (omega (arith, l))))
 
--- names of whole patterns that are marked are those that are referred to
+-- a name of a whole pattern is marked exactly if it is referred to
 pub pattern_used : (names : List Resolved) (marks : List Bool) (start n : ℕ) (xs : List Binding) →
     ((k : ℕ) → k < length xs → get_or marks (n + k) false ≡ list_any (refers (n + k)) names) →
     has_marked_pattern_name marks start n xs ≡ has_used_pattern_name names start n (map bound_of xs)
@@ -49,7 +49,7 @@ pattern_used names marks start n (x ∷ xs) known =
     (pattern_used names marks start (n + 1) xs (λ k l. let same : n + suc k ≡ n + 1 + k = omega arith in
     subst (λ j. get_or marks j false ≡ list_any (refers j) names) same (known (suc k) (omega (arith, l)))))
 
--- one binding more
+-- one more binding
 pub unmarked_push : (marks : List Bool) (patterns : BTreeSet ℕ) (n m : ℕ) (xs : List Binding) (x : Binding) → m ≡ n + length xs →
     unmarked_from marks patterns n (xs ++ x ∷ []) ≡ unmarked_from marks patterns n xs ++ unmarked marks patterns m x
 unmarked_push marks patterns n m [] x is =
@@ -58,7 +58,7 @@ unmarked_push marks patterns n m (y ∷ xs) x is =
     ap (λ rest. unmarked marks patterns n y ++ rest) (unmarked_push marks patterns (n + 1) m xs x (omega (arith, is)))
     ∙ sym (append_assoc (unmarked marks patterns n y) (unmarked_from marks patterns (n + 1) xs) (unmarked marks patterns m x))
 
--- what is known of the binding of a number
+-- what is known about the binding with a number
 pub record IsKnown (all : List Bound) (names : List Resolved) (marks : List Bool) (patterns : BTreeSet ℕ) (number : ℕ) (binding : Binding) : Type 0 where
   pub first : number_in all (cow_str_bytes binding.text) binding.scope ≡ Some binding.first
   pub mark : (get_or marks number true || has_offset patterns (scope_start (bound_of binding))) ≡ is_used all names number (bound_of binding)
@@ -80,7 +80,7 @@ unmarked_dead all names marks patterns n (x ∷ xs) known =
     (unmarked_dead all names marks patterns (n + 1) xs (λ k d l. let same : n + suc k ≡ n + 1 + k = omega arith in
     subst (λ j. IsKnown all names marks patterns j (get_or xs k d)) same (known (suc k) d (omega (arith, l)))))
 
--- the dead ones of a text
+-- the dead bindings of a text
 pub unmarked_in : (bindings : List Binding) (references : List Reference) (marks : List Bool) (patterns : BTreeSet ℕ) → AreFirst bindings →
     AreMarked (length bindings) references marks → AreUsedPatterns marks bindings patterns →
     unmarked_from marks patterns 0 bindings ≡ dead_from (map bound_of bindings) (map resolved_of references) 0 (map bound_of bindings)
@@ -98,7 +98,7 @@ unmarked_in bindings references marks patterns firsts marked are_wholes =
           ∙ ap (λ b. list_any (refers k) names || b) (whole (scope_start (bound_of (get_or bindings k d))));
     }))
 
--- one binding more of a list
+-- one more binding of a list
 pub unmarked_more : (marks : List Bool) (patterns : BTreeSet ℕ) (xs : List Binding) (i : ℕ) (x : Binding) → i < length xs → x ≡ get_or xs i x →
     unmarked_from marks patterns 0 (take (i + 1) xs) ≡ unmarked_from marks patterns 0 (take i xs) ++ unmarked marks patterns i x
 unmarked_more marks patterns xs i x l at =

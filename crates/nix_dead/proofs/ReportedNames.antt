@@ -34,7 +34,7 @@ none_reported is_json file text root old [] none same order = record {
 }
 none_reported is_json file text root old (name ∷ names) none same order = absurd (omega (arith, none))
 
--- one with dead names is reported
+-- a tree with dead names is reported
 pub some_reported : (is_json : Bool) (file text : List ℕ) (root : Located) (old new : Option (List ℕ)) (names : List Name) →
     (length names ≡ 0 → ⊥) → IsPermutation (dead_in root) (map listed_name names) → IsNonDecreasingBy (λ (name : Name). name.start) names →
     Appends old new (flat_map (name_output is_json file text) names) → AreReported is_json file text root old new 1
@@ -69,11 +69,11 @@ text_reported is_json file text old new tree faults status read none reported = 
   faultless = λ _. reported;
 }
 
--- what is appended after known bytes were kept
+-- appending bytes, after calls that change no output
 kept_appended : (old mid new : Option (List ℕ)) (bytes : List ℕ) → Keeps old mid → Appends mid new bytes → Appends old new bytes
 kept_appended old mid new bytes kept written = Appends-trans old mid new [] bytes (Appends-kept old old mid [] (Appends-nil old) kept) written
 
--- a file is reported after known bytes were kept
+-- a file is reported, after calls that change no output
 pub file_reported : (is_json : Bool) (file text : List ℕ) (old mid new : Option (List ℕ)) (status : ℕ) → Keeps old mid →
     IsReported is_json (display_name file) text mid new status → IsFileReported is_json file old new status
 file_reported is_json file text old mid new status kept reported = inr (
@@ -93,7 +93,7 @@ file_reported is_json file text old mid new status kept reported = inr (
   },
 )
 
--- the line of one name more is written
+-- the line of one more name is written
 pub lines_more : (f : Name → List ℕ) (names : List Name) (i : ℕ) (d : Name) (old mid new : Option (List ℕ)) → i < length names →
     Appends old mid (flat_map f (take i names)) → Appends mid new (f (get_or names i d)) → Appends old new (flat_map f (take (i + 1) names))
 lines_more f names i d old mid new within before own =

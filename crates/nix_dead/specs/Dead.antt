@@ -1,4 +1,4 @@
--- Dead bindings of a text: those that are to be reported and that no reference refers to.
+-- The dead bindings of a text: those that should be reported and to which no reference refers.
 use Rattle.std.specs.Prelude.{◌≡◌, ℕ, ◌+◌, ◌<◌, ◌==◌, ◌&&◌, ◌||◌, Bool, true, false, not, nat_eq, List, [], ◌∷◌, ◌++◌, length, map, get_or, set, codes, Option, Some, None, if◌then◌else◌}
 use Rattle.std.specs.List.{list_any, starts_with}
 use Rattle.std.specs.Ordering.{nat_cmp}
@@ -28,7 +28,7 @@ is_body bound = same_kind (item_of bound.scope).kind k.NODE_LEGACY_LET && bytes_
 abbrev pub is_reportable : Bound → Bool
 is_reportable bound = not (same_kind (item_of bound.scope).kind k.NODE_ATTR_SET) && (not (is_body bound) && not (is_ignored bound.text))
 
--- whether a reference refers to the binding of a number
+-- whether a reference refers to the binding with a number
 abbrev pub refers : ℕ → Resolved → Bool
 refers number name = is_number number name.binding
 
@@ -53,11 +53,11 @@ is_pattern_name bound = names_pattern (parent_of bound.node)
 abbrev pub scope_start : Bound → ℕ
 scope_start bound = (extent_of bound.scope).start
 
--- whether the binding of a number is the name of the whole pattern of the function that starts at an offset, and is referred to
+-- whether a binding is the name of the whole pattern of the function that starts at an offset, and is referred to
 abbrev pub is_used_pattern_name : List Resolved → ℕ → ℕ → Bound → Bool
 is_used_pattern_name names start number bound = list_any (refers number) names && (is_pattern_name bound && (start == scope_start bound))
 
--- whether one of these bindings, with the numbers from this one on, is such a name: through it, each argument of the function may be used
+-- whether one of these bindings, numbered from `number` on, is such a name: through it, each argument of the function may be used
 abbrev pub has_used_pattern_name : List Resolved → ℕ → ℕ → List Bound → Bool
 has_used_pattern_name names start number [] = false
 has_used_pattern_name names start number (bound ∷ more) = is_used_pattern_name names start number bound || has_used_pattern_name names start (number + 1) more
@@ -66,12 +66,12 @@ has_used_pattern_name names start number (bound ∷ more) = is_used_pattern_name
 abbrev pub is_used : List Bound → List Resolved → ℕ → Bound → Bool
 is_used bindings names number bound = list_any (refers number) names || has_used_pattern_name names (scope_start bound) 0 bindings
 
--- whether the binding of a number is dead: the first of its name in its scope, to be reported, and not used
+-- whether a binding is dead: it is the first of its name in its scope, should be reported, and is not used
 abbrev pub is_dead : List Bound → List Resolved → ℕ → Bound → Bool
 is_dead bindings names number bound =
     is_number number (number_in bindings bound.text bound.scope) && (is_reportable bound && not (is_used bindings names number bound))
 
--- the dead ones among bindings with the numbers from this one on
+-- the dead ones among these bindings, numbered from `number` on
 abbrev pub dead_from : List Bound → List Resolved → ℕ → List Bound → List Listed
 dead_from bindings names number [] = []
 dead_from bindings names number (bound ∷ more) =
@@ -85,21 +85,21 @@ dead_in root = dead_from (bindings_in root) (resolved_in root) 0 (bindings_in ro
 abbrev pub listed_name : Name → Listed
 listed_name name = (cow_str_bytes name.text, name.start)
 
--- the marks with that of a number set, if there is one
+-- the marks, with that of the given number set, if there is one
 abbrev pub marked : List Bool → ℕ → List Bool
 marked marks number = set marks number true
 
--- there are as many marks as the count, and each says whether a reference refers to the binding of its number
+-- there are `count` marks, and each says whether a reference refers to the binding with its number
 pub record AreMarked (count : ℕ) (references : List Reference) (marks : List Bool) : Type 0 where
   pub count_is : length marks ≡ count
   pub marks_are : (number : ℕ) (d : Bool) → number < count → get_or marks number d ≡ list_any (refers number) (map resolved_of references)
 
--- whether the binding of a number is marked, and the name of the whole pattern of the function that starts at an offset
+-- whether a binding is marked and is the name of the whole pattern of the function that starts at an offset
 abbrev pub is_marked_pattern_name : List Bool → ℕ → ℕ → Binding → Bool
 is_marked_pattern_name marks start number binding =
     get_or marks number false && (is_pattern_name (bound_of binding) && (start == scope_start (bound_of binding)))
 
--- whether one of these bindings, with the numbers from this one on, is so
+-- whether one of these bindings, numbered from `number` on, is such a name
 abbrev pub has_marked_pattern_name : List Bool → ℕ → ℕ → List Binding → Bool
 has_marked_pattern_name marks start number [] = false
 has_marked_pattern_name marks start number (binding ∷ more) =
@@ -109,14 +109,14 @@ has_marked_pattern_name marks start number (binding ∷ more) =
 abbrev pub has_offset : BTreeSet ℕ → ℕ → Bool
 has_offset offsets start = contains nat_cmp offsets start
 
--- the binding of a number, if it is the first of its name, to be reported, not marked, and its scope does not start at one of the offsets
+-- a binding, if it is the first of its name, should be reported, is not marked, and its scope does not start at one of the offsets
 abbrev pub unmarked : List Bool → BTreeSet ℕ → ℕ → Binding → List Listed
 unmarked marks patterns number binding =
     if nat_eq binding.first number
     && (is_reportable (bound_of binding) && not (get_or marks number true || has_offset patterns (scope_start (bound_of binding))))
     then listed (bound_of binding) ∷ [] else []
 
--- those among bindings with the numbers from this one on
+-- the bindings for which this holds, numbered from `number` on
 abbrev pub unmarked_from : List Bool → BTreeSet ℕ → ℕ → List Binding → List Listed
 unmarked_from marks patterns number [] = []
 unmarked_from marks patterns number (binding ∷ more) = unmarked marks patterns number binding ++ unmarked_from marks patterns (number + 1) more

@@ -1,4 +1,4 @@
--- What is reported of texts: a line for each name that is never used, and the exit status. A text is the list of its bytes.
+-- The report on texts: a line for each name that is never used, and the exit status. A text is the list of its bytes.
 use Rattle.std.specs.Prelude.{◌≡◌, ◌⊎◌, ℕ, Bool, List, [], ◌∷◌, ◌++◌, codes, decimal, map, Option, if◌then◌else◌}
 use Rattle.std.specs.List.{flat_map, Sorted.{IsNonDecreasingBy, IsPermutation}}
 use Rattle.std.specs.Cow.{cow_str_bytes}
@@ -27,11 +27,11 @@ name_object file text name =
     codes "{\"file\":" ++ json_string file ++ location_members (line_and_column text name.start) name.start ++ json_string (cow_str_bytes name.text)
     ++ codes "}\n"
 
--- the same as text or as JSON
+-- the line of a name, as text or as JSON
 unfoldable pub name_output : Bool → List ℕ → List ℕ → Name → List ℕ
 name_output is_json file text name = if is_json then name_object file text name else name_line file text name
 
--- the exit status by the names that are never used: 1 if there are some
+-- the exit status, given the names that are never used: 1 if there are any
 abbrev pub status_of : List Listed → ℕ
 status_of [] = 0
 status_of (name ∷ names) = 1
@@ -52,7 +52,7 @@ pub record IsReported (is_json : Bool) (file text : List ℕ) (old new : Option 
   pub faulty : ¬ (faults ≡ []) → (status ≡ 2) × Keeps old new
   pub faultless : faults ≡ [] → AreReported is_json file text record { tree = tree; number = 0 } old new status
 
--- a file is reported: nothing is written of one that is not read, and its status is 2; otherwise it has a text, which is reported
+-- a file is reported: nothing is written for a file that is not read, and its status is 2; otherwise it has a text, which is reported
 abbrev pub IsFileReported : Bool → List ℕ → Option (List ℕ) → Option (List ℕ) → ℕ → Type 0
 IsFileReported is_json file old new status =
     (Keeps old new × (status ≡ 2)) ⊎ ((text : List ℕ) × IsReported is_json (display_name file) text old new status)

@@ -19,11 +19,11 @@ error kinds = record { tree = record { kind = k.NODE_ERROR; children = tokens ki
 closed : skips_brackets None (error (k.TOKEN_L_PAREN ∷ k.TOKEN_COMMA ∷ k.TOKEN_R_PAREN ∷ [])) ≡ false
 closed = refl
 
--- a bracket that is left open
+-- a bracket that is left open is skipped
 remaining_open : skips_brackets None (error (k.TOKEN_L_PAREN ∷ k.TOKEN_COMMA ∷ [])) ≡ true
 remaining_open = refl
 
--- a bracket that closes what is open before the node
+-- so is a bracket that closes what is open before the node
 closes_outer : skips_brackets None (error (k.TOKEN_R_PAREN ∷ k.TOKEN_L_PAREN ∷ [])) ≡ true
 closes_outer = refl
 
@@ -43,7 +43,7 @@ else_alone = refl
 all_closed : unmatched (error (k.TOKEN_L_PAREN ∷ k.TOKEN_L_BRACK ∷ k.TOKEN_R_BRACK ∷ k.TOKEN_R_PAREN ∷ [])) ≡ None
 all_closed = refl
 
--- a second closing parenthesis
+-- a second closing parenthesis closes nothing
 one_too_many : unmatched (error (k.TOKEN_L_PAREN ∷ k.TOKEN_R_PAREN ∷ k.TOKEN_R_PAREN ∷ [])) ≡ Some record { start = 2; end = 3 }
 one_too_many = refl
 

@@ -1,4 +1,4 @@
--- Facts on the tokens with which errors start.
+-- Facts about the tokens with which errors start.
 use Rattle.std.proofs.Common.{◌≡◌, ◌∙◌, ℕ, zero, suc, ◌+◌, ◌<◌, ◌≤◌, ◌⊎◌, Bool, true, false, cond, List, [], ◌∷◌, map, length, Option, Some, None, ap, sym, subst, refl, arith, inl, inr}
 use Rattle.std.specs.Prelude.{find, unwrap_or, IfSome, option_map, not, nat_lt, ◌==◌, ◌&&◌, if◌then◌else◌}
 use Rattle.std.proofs.lemmas.Bool.{cases_lt, eqb-true, ltb-true, lt-ltb}
@@ -47,7 +47,7 @@ none_at test t n (suc k) none =
       step true is later = absurd (grind (arith, is))
       step false is later = later
 
--- the parts of the test for the start of a token
+-- what passing the test for the start of a token says
 parts : (node : Bool) (start end offset : ℕ) → (not node && (start == offset && nat_lt offset end)) ≡ true →
     (node ≡ false) × (start ≡ offset) × (offset < end)
 parts true start end offset is = absurd (grind (arith, is))
@@ -57,7 +57,7 @@ parts false start end offset is = both (start == offset) (nat_lt offset end) ref
   both true false same less passed = absurd (grind (arith, passed))
   both false b same less passed = absurd (grind (arith, passed))
 
--- the number is that of a token that starts at an offset and is not empty
+-- the element with the number is a token that starts at an offset and is not empty
 record Starts (t : Tree) (offset m : ℕ) : Type 0 where
   pub there : m < length (items_of t)
   pub token : (item t m).is_node ≡ false
@@ -68,11 +68,11 @@ record Starts (t : Tree) (offset m : ℕ) : Type 0 where
 eqb-same : (a b : ℕ) → a ≡ b → (a == b) ≡ true
 eqb-same a b is = grind (arith, is)
 
--- what is in an option is its value
+-- `Some` is injective
 some_same : (a b : Located) → Some a ≡ Some b → a ≡ b
 some_same a b is = ap (λ o. unwrap_or o a) is
 
--- the test says so
+-- such a token passes the test
 test_true : (t : Tree) (offset m : ℕ) → Starts t offset m → starts_at offset (spot_at t m) ≡ true
 test_true t offset m h = step (item t m).is_node ((item t m).start == offset) (nat_lt offset (item t m).end) h.token
     (eqb-same (item t m).start offset h.start) (lt-ltb offset (item t m).end h.some) where
@@ -82,13 +82,13 @@ test_true t offset m h = step (item t m).is_node ((item t m).start == offset) (n
       step false true false is first second = absurd (grind (arith, second))
       step false false b is first second = absurd (grind (arith, first))
 
--- two such tokens are one
+-- two such tokens are not one before the other
 no_earlier : (t : Tree) (offset i j : ℕ) → Starts t offset i → Starts t offset j → ¬ (i < j)
 no_earlier t offset i j first second less =
     let ends = token_last t i j less second.there first.token in
     omega (arith, ends, first.some, second.start)
 
--- a number that is not that of such a token does not pass the test
+-- an element that is not such a token fails the test
 test_false : (t : Tree) (offset m : ℕ) → m < length (items_of t) → ¬ (Starts t offset m) → starts_at offset (spot_at t m) ≡ false
 test_false t offset m is_in isnt = step (starts_at offset (spot_at t m)) refl where
   step : (b : Bool) → starts_at offset (spot_at t m) ≡ b → b ≡ false
@@ -142,7 +142,7 @@ touches root offset m top h =
       high = omega (arith, h.some);
     }
 
--- a token that touches an offset starts there, if no other one can
+-- if no other token can start at an offset, a token that touches the offset is found exactly if it starts there
 starts_or_none : (root token : Located) (offset : ℕ) → root.number ≡ 0 → token.tree ≡ root.tree → IsTouched root offset token.number →
     ((m : ℕ) → Starts root.tree offset m → m ≡ token.number) →
     token_from root offset ≡ (if (item_of token).start == offset then Some token else None)
@@ -194,7 +194,7 @@ none_starts root offset at.None top are is = token_missing root offset top (λ m
 none_starts root offset (at.Single a) top are is = absurd (grind (arith, is))
 none_starts root offset (at.Between a b) top are is = absurd (grind (arith, is))
 
--- the tree may be named by any element
+-- any element of the tree may be used to name the tree
 pub from_another : (one root : Located) (offset : ℕ) (token : Option Located) → one.tree ≡ root.tree → IfSome token (IsFrom one offset) →
     IfSome token (IsFrom root offset)
 from_another one root offset None same h = tt
@@ -213,7 +213,7 @@ right_in_tree root offset at.None token are is = absurd (grind (arith, is))
 right_in_tree root offset (at.Single a) token are is = ap (λ (x : Located). x.tree) (sym (some_same a token is)) ∙ are.0
 right_in_tree root offset (at.Between a b) token are is = ap (λ (x : Located). x.tree) (sym (some_same b token is)) ∙ are.1
 
--- a node that is kept is the one that was given
+-- a node that `if_error` returns is in the tree, if the given one is
 pub kept_in_tree : (root : Located) (range : Extent) (given result : Option Located) → result ≡ if_error range given → IfSome given (IsInTree root) →
     IfSome result (IsInTree root)
 kept_in_tree root range given None is h = tt
@@ -230,7 +230,7 @@ parent_in_tree root e same = step (item_of e).parent where
   step None = tt
   step (Some n) = same
 
--- a token that was found near an element of the tree is the one that starts there
+-- a token that was found from another element of the tree is the one that starts there
 pub near_found : (one root : Located) (offset : ℕ) (near : Option Located) (token : Located) → root.number ≡ 0 → IsInTree root one →
     IfSome near (IsFrom one offset) → near ≡ Some token → token_from root offset ≡ Some token
 near_found one root offset None token top same h is = absurd (grind (arith, is))
@@ -243,12 +243,12 @@ pub near_in_tree : (one root : Located) (offset : ℕ) (near : Option Located) (
 near_in_tree one root offset None token same h is = absurd (grind (arith, is))
 near_in_tree one root offset (Some t) token same h is = ap (λ (x : Located). x.tree) (sym (some_same t token is)) ∙ (h.tree ∙ same)
 
--- the error node with a range, where a token starts
+-- the error node with a range, if a token starts where the range does
 pub error_there : (root : Located) (range : Extent) (token : Located) → token_from root range.start ≡ Some token →
     error_at root (Some range) ≡ if_error range (parent_of token)
 error_there root range token is = ap (λ t. if_error range (node_around t)) is
 
--- and where none does
+-- if no token starts there, there is no such node
 pub no_error_there : (root : Located) (range : Extent) → token_from root range.start ≡ None → error_at root (Some range) ≡ None
 no_error_there root range is = ap (λ t. if_error range (node_around t)) is
 
@@ -272,7 +272,7 @@ first_is_token e (Some r) first h is =
       is_token = ap (λ x. (item x r.number).is_node) h.0 ∙ token.is_token;
     }
 
--- the next token is a token of the tree
+-- the next token is in the same tree, and is a token
 pub next_is_token : (e next : Located) → IsNextToken e (Some next) → (next.tree ≡ e.tree) × IsTokenAt next
 next_is_token e next h =
     let token = h.1.1 in (
@@ -283,6 +283,6 @@ next_is_token e next h =
       },
     )
 
--- and so if there is one
+-- the same, if there is a next token
 pub next_found : (e : Located) (found : Option Located) (next : Located) → IsNextToken e found → found ≡ Some next → (next.tree ≡ e.tree) × IsTokenAt next
 next_found e found next h is = next_is_token e next (subst (IsNextToken e) is h)

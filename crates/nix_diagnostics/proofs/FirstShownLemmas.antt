@@ -1,4 +1,4 @@
--- The first of the diagnostics that show some errors, and one error more.
+-- The first of the diagnostics that show some errors, and one more error.
 use Rattle.std.proofs.Common.{◌≡◌, ◌∙◌, ℕ, zero, suc, ◌+◌, ◌<◌, ◌≤◌, true, false, take, List, [], ◌∷◌, ◌++◌, length, map, Some, None, sym, ap, subst, arith, refl, inl, inr}
 use Rattle.std.proofs.lemmas.{List.{length_push, length-append, length-take-le, take_all, take-append-le, append-nil}, Bool.cases_lt}
 use Rattle.rnix_green.specs.declared.range.TextRange.{TextRange}
@@ -15,7 +15,7 @@ use Rattle.nix_diagnostics.specs.Shown.{AreShown, CoverRuns, IsFolded, IsSingle,
 use Rattle.nix_diagnostics.specs.FirstShown.{AreFirst, IsCountFolded, IsCountAdded}
 use Rattle.nix_diagnostics.proofs.ShownLemmas.{nothing_shown, no_errors, shown_added, shown_folded, some_shown, last_run, all_shown, covers_runs}
 
--- the first of the diagnostics that show some errors, and how many these are
+-- the first of the diagnostics that show some errors, and the number of these diagnostics
 pub record AreFirstOf (root : Located) (all faults : List Fault) (most : ℕ) (found : FirstDiagnostics) : Type 0 where
   pub ds : List Diagnostic
   pub are : Shows root all faults ds
@@ -28,17 +28,17 @@ few_shown root all _ _ none = omega arith
 few_shown root all _ _ (shown faults more ds fault d are new follow at has_message code from end) =
     omega (arith, few_shown root all faults ds are, length_push ds d, length-append faults (fault ∷ more))
 
--- so their number is at most that of the errors
+-- so the count is at most the number of errors
 pub few_counted : (root : Located) (all faults : List Fault) (most : ℕ) (found : FirstDiagnostics) → AreFirstOf root all faults most found →
     found.count ≤ length faults
 few_counted root all faults most found are = omega (arith, are.count, few_shown root all faults are.ds are.are)
 
--- where an error follows, there is a diagnostic
+-- if an error follows from earlier ones, there is a diagnostic
 pub some_counted : (root : Located) (all faults : List Fault) (most : ℕ) (found : FirstDiagnostics) (fault : Fault) →
     AreFirstOf root all faults most found → follows root all faults fault ≡ true → 0 < found.count
 some_counted root all faults most found fault are does = omega (arith, are.count, some_shown root all faults are.ds fault are.are does)
 
--- no errors are shown by no diagnostics
+-- no errors have no diagnostics
 pub nothing_first : (root : Located) (all faults : List Fault) (most : ℕ) (found : FirstDiagnostics) → faults ≡ [] → found.first.items ≡ [] →
     found.count ≡ 0 → AreFirstOf root all faults most found
 nothing_first root all faults most found no_error no_ds no_count = record {
@@ -48,7 +48,7 @@ nothing_first root all faults most found no_error no_ds no_count = record {
   count = no_count;
 }
 
--- a list that is not empty has a last item
+-- a list that is not empty has a last element
 record HasLast (ds : List Diagnostic) : Type 0 where
   before : List Diagnostic
   d : Diagnostic
@@ -61,7 +61,7 @@ has_last (d ∷ e ∷ ds) some =
     let rest = has_last (e ∷ ds) (omega arith) in
     record { before = d ∷ rest.before; d = rest.d; is = ap (λ ds. d ∷ ds) rest.is }
 
--- one error more is covered by the last diagnostic, which is not among the first
+-- one more error is covered by the last diagnostic, which is not among the first
 folded_after : (root : Located) (all faults more : List Fault) (most number : ℕ) (old new : FirstDiagnostics) (fault : Fault)
     (are : AreFirstOf root all faults most old) → most < length are.ds → new.first.items ≡ old.first.items → new.count ≡ old.count →
     follows root all faults fault ≡ true → number ≡ length faults → more ≡ faults ++ fault ∷ [] → AreFirstOf root all more most new
@@ -81,7 +81,7 @@ folded_after root all faults more most number old new fault are less kept same_c
       count = same_count ∙ are.count ∙ ap length last.is ∙ length_push last.before d ∙ sym (length_push last.before next);
     }
 
--- one error more is covered by the last diagnostic, which is among the first
+-- one more error is covered by the last diagnostic, which is among the first
 folded_first : (root : Located) (all faults more : List Fault) (most number : ℕ) (old new : FirstDiagnostics) (fault : Fault)
     (are : AreFirstOf root all faults most old) → length are.ds ≤ most → IsFolded number are.ds new.first.items → new.count ≡ old.count →
     follows root all faults fault ≡ true → number ≡ length faults → more ≡ faults ++ fault ∷ [] → AreFirstOf root all more most new
@@ -95,7 +95,7 @@ folded_first root all faults more most number old new fault are few folded same_
       count = same_count ∙ are.count ∙ sym same;
     }
 
--- one error more is covered by the last diagnostic
+-- one more error is covered by the last diagnostic
 pub folded_one : (root : Located) (all faults more : List Fault) (most number : ℕ) (old new : FirstDiagnostics) (fault : Fault) →
     AreFirstOf root all faults most old → IsCountFolded number old new → follows root all faults fault ≡ true → number ≡ length faults →
     more ≡ faults ++ fault ∷ [] → AreFirstOf root all more most new
@@ -113,7 +113,7 @@ folded_one root all faults more most number old new fault are folded does counts
           )
     ]
 
--- one error more has a diagnostic, which is among the first
+-- one more error has a diagnostic of its own, which is among the first
 pub added_first : (root : Located) (all faults more : List Fault) (most : ℕ) (old new : FirstDiagnostics) (fault : Fault) (d : Diagnostic) →
     AreFirstOf root all faults most old → IsCountAdded (Some d) old new → length old.first.items < most → follows root all faults fault ≡ false →
     IsSingle root (length faults) fault d → more ≡ faults ++ fault ∷ [] → AreFirstOf root all more most new
@@ -132,7 +132,7 @@ added_first root all faults more most old new fault d are added room does_not si
           )
     ]
 
--- where so many are first, there are so many
+-- if the list of the first diagnostics is full, there are at least `most` diagnostics
 enough : (most : ℕ) (first ds : List Diagnostic) → first ≡ take most ds → most ≤ length first → most ≤ length ds
 enough most first ds is full =
     elim (cases_lt most (length ds)) [
@@ -140,7 +140,7 @@ enough most first ds is full =
       | inr few ↦ omega (arith, full, ap length (is ∙ take_all most ds few))
     ]
 
--- one error more has a diagnostic, which is only counted: some diagnostic with a message is one
+-- one more error has a diagnostic of its own, which is only counted: any diagnostic with a message will do
 pub added_after : (root : Located) (all faults more : List Fault) (most : ℕ) (old new : FirstDiagnostics) (fault : Fault) (range : TextRange) →
     AreFirstOf root all faults most old → IsCountAdded None old new → 0 < most → most ≤ length old.first.items → follows root all faults fault ≡ false →
     bounds_of range ≡ location_of root fault → more ≡ faults ++ fault ∷ [] → AreFirstOf root all more most new
@@ -167,7 +167,7 @@ all_first root errors faults n most found is done first =
     let are : Shows root faults faults first.ds = all_shown root errors faults n first.ds is done first.are in
     record { all = first.ds; shown = are; runs = covers_runs root faults first.ds are; first = first.first; count = first.count }
 
--- if there are no more, they are all
+-- if there are at most `most` diagnostics, the first ones are all
 pub first_are_all : (root : Located) (faults : List Fault) (most : ℕ) (found : FirstDiagnostics) (are : AreFirst root faults most found) →
     found.count ≤ most → found.first.items ≡ are.all
 first_are_all root faults most found are few = are.first ∙ take_all most are.all (omega (arith, are.count, few))

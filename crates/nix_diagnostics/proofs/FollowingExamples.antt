@@ -6,11 +6,11 @@ use Rattle.rnix_green.specs.{Forest.{Forest, empty, leaf, node}, Tree.Located}
 use Rattle.rnix_grammar.specs.Fault.{Fault, unexpected_at, unexpected_eof, duplicated_args, extra}
 use Rattle.nix_diagnostics.specs.Following.{firsts}
 
--- a comment in front of a forest, with three words and two line feeds
+-- a comment before a forest, with three words and two line feeds
 abbrev far : Forest → Forest
 far rest = leaf k.TOKEN_COMMENT (10 ∷ 97 ∷ 32 ∷ 97 ∷ 32 ∷ 97 ∷ 10 ∷ []) rest
 
--- an error node with a token of the kind, in front of a forest
+-- an error node with a token of the kind, before a forest
 abbrev wrong : SyntaxKind → Forest → Forest
 wrong kind rest = node k.NODE_ERROR (leaf kind (44 ∷ []) empty) rest
 
@@ -27,11 +27,11 @@ inside around first last =
 abbrev errors : List Fault
 errors = unexpected_at record { start = 1; end = 2 } ∷ unexpected_at record { start = 9; end = 10 } ∷ []
 
--- in one list the second follows
+-- in a list, the second error follows
 in_list : firsts (inside k.NODE_LIST k.TOKEN_COMMA k.TOKEN_R_PAREN) errors ≡ 0 ∷ []
 in_list = refl
 
--- in parentheses it does not
+-- in parentheses, it does not
 in_parentheses : firsts (inside k.NODE_PAREN k.TOKEN_COMMA k.TOKEN_R_PAREN) errors ≡ 0 ∷ 1 ∷ []
 in_parentheses = refl
 
@@ -47,11 +47,11 @@ closed_outer = refl
 closed_nothing : firsts (inside k.NODE_PAREN k.TOKEN_R_BRACE k.TOKEN_R_PAREN) errors ≡ 0 ∷ 1 ∷ []
 closed_nothing = refl
 
--- in a text that ends too early, after what continues to its end
+-- in a text that ends too early, errors after what continues to its end follow
 too_early : firsts (inside k.NODE_PAREN k.TOKEN_COMMA k.TOKEN_COMMA) (errors ++ unexpected_eof ∷ []) ≡ 0 ∷ []
 too_early = refl
 
--- in a text that ends inside a string all errors follow from the first, repeated names too
+-- in a text that ends inside a string, all errors follow from the first, repeated names too
 inside_string : firsts (inside k.NODE_PAREN k.TOKEN_COMMA k.TOKEN_STRING_CONTENT) (errors ++ duplicated_args record { start = 3; end = 4 } [] ∷ []) ≡ 0 ∷ []
 inside_string = refl
 

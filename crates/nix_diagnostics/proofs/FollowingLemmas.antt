@@ -1,4 +1,4 @@
--- Facts on errors that follow from earlier ones.
+-- Facts about errors that follow from earlier ones.
 use Rattle.std.proofs.Common.{◌≡◌, ◌∙◌, ℕ, Bool, true, false, List, [], ◌∷◌, ◌++◌, Option, Some, None, ap, sym, subst, refl, arith, ◌≤◌, if◌then◌else◌}
 use Rattle.std.specs.Prelude.{option_map, is_some, is_none, nat_le, not, drop, ◌&&◌, ◌||◌}
 use Rattle.rnix_green.specs.Tree.{Located, text_at}
@@ -42,7 +42,7 @@ token_error_not_extra (unexpected_eof_wanted kinds) is = refl
 token_error_not_extra (duplicated_args range name) is = refl
 token_error_not_extra too_deep is = refl
 
--- the state knows whether an error is independent of the earlier ones
+-- the state determines whether an error is independent of the earlier ones
 pub independent_known : (root : Located) (all before : List Fault) (fault : Fault) (f : Folding) (location : TextRange) → FitsErrors root all before f →
     bounds_of location ≡ location_of root fault → is_independent_in f location ≡ is_independent root before fault
 independent_known root all before fault f location known at =
@@ -50,7 +50,7 @@ independent_known root all before fault f location known at =
     ∙ (ap (λ r. ends_between r location.start (since r (semicolons_of root))) known.reaches
     ∙ ap (λ (e : Extent). ends_between (reach root before) e.start (since (reach root before) (semicolons_of root))) at)
 
--- whether an error is near the last one depends on the place of that alone
+-- whether an error is near the last one depends only on where the last one ends
 near_known : (root : Located) (before : List Fault) (fault : Fault) (last : Option ℕ) (location : TextRange) →
     last ≡ option_map (λ x. (location_of root x).end) (last_token_error before) → bounds_of location ≡ location_of root fault →
     is_close_after (text_at root) last location.start ≡ is_near root (last_token_error before) fault
@@ -61,12 +61,12 @@ near_known root before fault last location is at =
       near None = refl
       near (Some l) = ap (λ (e : Extent). are_close (text_at root) (location_of root l).end e.start) at
 
--- whether a place is known is whether there is an error
+-- an end is recorded exactly if there is an error
 last_known : (root : Located) (o : Option Fault) (last : Option ℕ) → last ≡ option_map (λ fault. (location_of root fault).end) o → is_some last ≡ is_some o
 last_known root None last is = ap is_some is
 last_known root (Some fault) last is = ap is_some is
 
--- the state judges an error about an unexpected or a missing token
+-- the state determines whether an error about an unexpected or a missing token follows
 pub judged_token_error : (root : Located) (all before : List Fault) (fault : Fault) (f : Folding) (independent : Bool) (group : Option TextRange)
     (location : TextRange) (b : Bool) → FitsErrors root all before f → bounds_of location ≡ location_of root fault → is_token_error fault ≡ true →
     independent ≡ is_independent root before fault → option_map bounds_of group ≡ group_of root fault →
@@ -79,12 +79,12 @@ judged_token_error root all before fault f independent group location b known at
     && (if apart_is k then known.unbalanced k && (known.closed k && nat_le (known.end k) (at k).end)
     else known.lost k || (are_same_range (own k) (known.group k) || near k))))))
 
--- an error node skips brackets as the state knows
+-- the state determines whether an error node skips brackets
 pub skips_known : (root : Located) (all before : List Fault) (fault : Fault) (f : Folding) (found : Option Located) (b : Bool) → FitsErrors root all before f →
     found ≡ error_node root fault → b ≡ skips_if (option_map bounds_of f.extra) found → b ≡ skips root fault
 skips_known root all before fault f found b known is result = result ∙ (λ k. skips_if (known.extra k) (is k))
 
--- the parser has lost its way at an error or before it, as the state knows
+-- the state determines whether the parser has lost its way at an error or before it
 pub lost_known : (root : Located) (all before : List Fault) (fault : Fault) (f : Folding) (independent skipped : Bool) (location : TextRange) (b : Bool) →
     FitsErrors root all before f → bounds_of location ≡ location_of root fault → is_token_error fault ≡ true → independent ≡ is_independent root before fault →
     skipped ≡ skips root fault → b ≡ ((f.is_lost && not independent) || loses_in f fault skipped location) → b ≡ is_lost root all (before ++ fault ∷ [])
@@ -94,14 +94,14 @@ lost_known root all before fault f independent skipped location b known at token
     || (nat_le (known.end k) (at k).end || (is_from (known.lost_from k) (at k).start || own k)))))
     ∙ sym (lost_push root all before fault)
 
--- brackets were skipped at an error or before it, as the state knows
+-- the state determines whether brackets were skipped at an error or before it
 pub unbalanced_known : (root : Located) (all before : List Fault) (fault : Fault) (f : Folding) (skipped : Bool) (b : Bool) →
     FitsErrors root all before f → is_token_error fault ≡ true → skipped ≡ skips root fault → b ≡ (f.is_unbalanced || skipped) →
     b ≡ has_skipped root (before ++ fault ∷ [])
 unbalanced_known root all before fault f skipped b known token_error own result =
     result ∙ (λ k. known.unbalanced k || (sym token_error k && own k)) ∙ sym (skipped_push root before fault)
 
--- what is known after an error about an unexpected or a missing token
+-- the new state fits the errors with one more about an unexpected or a missing token
 pub fits_token_error : (root : Located) (all before : List Fault) (fault : Fault) (f mid new : Folding) (far : ℕ) → FitsErrors root all before f →
     is_token_error fault ≡ true → far ≡ (location_of root fault).end → HasReached mid new far → mid.last ≡ Some far → mid.end ≡ f.end → mid.extra ≡ f.extra →
     mid.lost_from ≡ f.lost_from → mid.reach ≡ f.reach → drop mid.passed mid.semicolons.items ≡ drop f.passed f.semicolons.items →
@@ -131,7 +131,7 @@ fits_token_error root all before fault f mid new far known token_error far_is no
           ∙ ap (λ r. since r (semicolons_of root)) (sym reached.reaches);
     }
 
--- what is known after another error
+-- the state also fits the errors with one more of another kind
 pub fits_other : (root : Located) (all before : List Fault) (fault : Fault) (f : Folding) → FitsErrors root all before f → is_token_error fault ≡ false →
     FitsErrors root all (before ++ fault ∷ []) f
 fits_other root all before fault f known other =
@@ -154,21 +154,21 @@ fits_other root all before fault f known other =
 abbrev rest_of : (root : Located) (all before : List Fault) (fault : Fault) → Bool
 rest_of root all before fault = if is_independent root before fault then is_closing root before fault else is_joined root all before fault
 
--- the state judges an error about tokens after the expression
+-- the state determines whether an error about tokens after the expression follows
 pub judged_extra : (root : Located) (all before : List Fault) (fault : Fault) (f : Folding) (b : Bool) → FitsErrors root all before f →
     is_extra fault ≡ true → b ≡ is_some f.last → b ≡ follows root all before fault
 judged_extra root all before fault f b known is counts =
     counts ∙ last_known root (last_token_error before) f.last known.last ∙ sym (and_true (is_some (last_token_error before)))
     ∙ (λ k. is_some (last_token_error before) && (sym is k || (ends_in_string root || (is_token_error fault && rest_of root all before fault))))
 
--- one of two tests, of which the second fails, and another one
+-- `inside && some` with the operands swapped, and `false` as an alternative
 both_ways : (inside some : Bool) → (inside && some) ≡ (some && (inside || false))
 both_ways true true = refl
 both_ways true false = refl
 both_ways false true = refl
 both_ways false false = refl
 
--- the state judges a repeated name
+-- the state determines whether an error about a repeated name follows
 pub judged_name : (root : Located) (all before : List Fault) (fault : Fault) (f : Folding) (b : Bool) → FitsErrors root all before f →
     is_token_error fault ≡ false → is_extra fault ≡ false → b ≡ (f.in_string && is_some f.last) → b ≡ follows root all before fault
 judged_name root all before fault f b known other is counts =

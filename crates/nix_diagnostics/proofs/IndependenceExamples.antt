@@ -3,7 +3,7 @@ use Rattle.std.proofs.Common.{◌≡◌, ℕ, List, [], ◌∷◌, true, false, 
 use Rattle.nix_diagnostics.specs.declared.semicolons.Semicolon.{Semicolon}
 use Rattle.nix_diagnostics.specs.Independence.{since, ends_between}
 
--- those of `{ a = ); b = { c = 1; }; }`
+-- the `;` of `{ a = ); b = { c = 1; }; }`
 abbrev semicolons : List Semicolon
 semicolons = record { start = 7; set = 0 } ∷ record { start = 20; set = 13 } ∷ record { start = 23; set = 0 } ∷ []
 

@@ -1,4 +1,4 @@
--- Facts on entries that end between errors.
+-- Facts about entries that end between errors.
 use Rattle.std.proofs.Common.{◌≡◌, ◌∙◌, ℕ, Bool, true, false, List, [], ◌∷◌, ◌++◌, ap, sym, refl, arith, ◌≤◌, if◌then◌else◌}
 use Rattle.std.proofs.lemmas.Bool.{ltb-true, lt-ltb}
 use Rattle.std.specs.Prelude.{nat_lt}
@@ -9,7 +9,7 @@ use Rattle.nix_diagnostics.specs.TokenErrors.{is_token_error}
 use Rattle.nix_diagnostics.specs.Independence.{since, larger, reach, reach_from}
 use Rattle.nix_diagnostics.specs.declared.semicolons.Semicolon.{Semicolon}
 
--- what starts before the larger of two offsets is passed also after what starts before the other
+-- skipping to an offset and then to a larger one is skipping to the larger one
 pub since_more : (few more : ℕ) → few ≤ more → (semicolons : List Semicolon) → since more (since few semicolons) ≡ since more semicolons
 since_more few more le [] = refl
 since_more few more le (s ∷ rest) = step (nat_lt s.start few) refl (since_more few more le rest) where
@@ -20,14 +20,14 @@ since_more few more le (s ∷ rest) = step (nat_lt s.start few) refl (since_more
       shorter ∙ sym (ap (λ b. if b then since more rest else s ∷ rest) passes)
   step false is shorter = refl
 
--- the larger of two numbers is no smaller than the first
+-- the larger of two numbers is at least the first
 pub first_le : (m n : ℕ) → m ≤ larger m n
 first_le m n = step (nat_lt m n) refl where
   step : (b : Bool) → nat_lt m n ≡ b → m ≤ (if b then n else m)
   step true is = omega (arith, ltb-true m n is)
   step false is = omega arith
 
--- how far one more error reaches
+-- where some errors and one more end
 reach_push : (root : Located) (end : ℕ) (faults : List Fault) (fault : Fault) →
     reach_from root end (faults ++ fault ∷ [])
     ≡ (if is_token_error fault then larger (reach_from root end faults) (location_of root fault).end else reach_from root end faults)
@@ -37,13 +37,13 @@ reach_push root end [] fault = step (is_token_error fault) refl where
   step b is = refl
 reach_push root end (f ∷ faults) fault = reach_push root (if is_token_error f then larger end (location_of root f).end else end) faults fault
 
--- an error about an unexpected or a missing token reaches to its end, if it reaches further than those before it
+-- after an error about an unexpected or a missing token, the reach is the larger of the old reach and the error's end
 pub reach_token_error : (root : Located) (faults : List Fault) (fault : Fault) → is_token_error fault ≡ true →
     reach root (faults ++ fault ∷ []) ≡ larger (reach root faults) (location_of root fault).end
 reach_token_error root faults fault is =
     reach_push root 0 faults fault ∙ ap (λ b. if b then larger (reach root faults) (location_of root fault).end else reach root faults) is
 
--- another error reaches no further
+-- another error does not change the reach
 pub reach_other : (root : Located) (faults : List Fault) (fault : Fault) → is_token_error fault ≡ false →
     reach root (faults ++ fault ∷ []) ≡ reach root faults
 reach_other root faults fault is =

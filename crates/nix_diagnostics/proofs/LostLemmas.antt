@@ -1,4 +1,4 @@
--- One error more, and whether the parser has lost its way, and whether brackets were skipped.
+-- One more error: whether the parser has lost its way, and whether brackets were skipped.
 use Rattle.std.proofs.Common.{◌≡◌, ◌∙◌, Bool, true, false, List, [], ◌∷◌, ◌++◌, ap, sym, refl}
 use Rattle.std.specs.Prelude.{not, ◌&&◌, ◌||◌}
 use Rattle.std.specs.List.{list_any}
@@ -10,22 +10,22 @@ use Rattle.nix_diagnostics.specs.TokenErrors.{is_token_error}
 use Rattle.nix_diagnostics.specs.Independence.{is_independent}
 use Rattle.nix_diagnostics.specs.Following.{loses, loses_at, skips, resynchronizes, none_resynchronizes, is_lost_in, is_lost, has_skipped}
 
--- one of two tests, of which the second fails
+-- `false` adds nothing to an `or`
 pub or_false : (b : Bool) → (b || false) ≡ b
 or_false true = refl
 or_false false = refl
 
--- both of two tests, of which the second passes
+-- `true` adds nothing to an `and`
 pub and_true : (b : Bool) → (b && true) ≡ b
 and_true true = refl
 and_true false = refl
 
--- both of three tests
+-- `and` is associative
 and_and : (a b c : Bool) → (a && (b && c)) ≡ ((a && b) && c)
 and_and true b c = refl
 and_and false b c = refl
 
--- a test of two that both are followed by a third one
+-- a test that two alternatives share can be made once
 shared_last : (l n r s x : Bool) → ((l && (n && s)) || ((r && s) || x)) ≡ ((((l && n) || r) && s) || x)
 shared_last false n r s x = refl
 shared_last true false r s x = refl
@@ -59,12 +59,12 @@ lost_in_push root all before (f ∷ faults) fault =
     ∙ shared_last (loses root all f) (none_resynchronizes root more faults) (is_lost_in root all more faults) still (loses root all fault)
     ∙ ap (λ b. (is_lost_in root all before (f ∷ faults) && not (resynchronizes root b fault)) || loses root all fault) (append_assoc before (f ∷ []) faults)
 
--- the parser has lost its way after one error more
+-- whether the parser has lost its way after one more error
 pub lost_push : (root : Located) (all before : List Fault) (fault : Fault) →
     is_lost root all (before ++ fault ∷ []) ≡ ((is_lost root all before && not (resynchronizes root before fault)) || loses root all fault)
 lost_push root all before fault = lost_in_push root all [] before fault
 
--- after an error that is not about an unexpected or a missing token it has, if it had before
+-- an error that is not about an unexpected or a missing token does not change whether the parser has lost its way
 pub lost_other : (root : Located) (all before : List Fault) (fault : Fault) → is_token_error fault ≡ false →
     is_lost root all (before ++ fault ∷ []) ≡ is_lost root all before
 lost_other root all before fault other =
@@ -73,14 +73,14 @@ lost_other root all before fault other =
     ∙ or_false (is_lost root all before && true)
     ∙ and_true (is_lost root all before)
 
--- brackets were skipped at some errors and one more
+-- whether brackets were skipped at some errors and one more
 pub skipped_push : (root : Located) (before : List Fault) (fault : Fault) →
     has_skipped root (before ++ fault ∷ []) ≡ (has_skipped root before || (is_token_error fault && skips root fault))
 skipped_push root before fault =
     list_any-append (λ f. is_token_error f && skips root f) before (fault ∷ [])
     ∙ ap (λ b. has_skipped root before || b) (or_false (is_token_error fault && skips root fault))
 
--- after an error that is not about an unexpected or a missing token they were, if they were before
+-- an error that is not about an unexpected or a missing token does not change whether brackets were skipped
 pub skipped_other : (root : Located) (before : List Fault) (fault : Fault) → is_token_error fault ≡ false →
     has_skipped root (before ++ fault ∷ []) ≡ has_skipped root before
 skipped_other root before fault other =

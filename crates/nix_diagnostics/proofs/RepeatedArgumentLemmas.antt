@@ -30,7 +30,7 @@ no_last (e ∷ errors) are =
 nothing_and : (o : Option Fault) (b : Bool) → o ≡ None → (is_some o && b) ≡ false
 nothing_and o b none = ap (λ (x : Option Fault). is_some x && b) none
 
--- no error follows from them
+-- no error follows from errors about repeated names
 pub none_follows : (root : Located) (all : List Fault) (errors : List ParseError) (fault : Fault) →
     list_all (λ e. is_repeated_name (fault_of e)) errors ≡ true → follows root all (map fault_of errors) fault ≡ false
 none_follows root all errors fault are = nothing_and (last_token_error (map fault_of errors)) _ (no_last errors are)
@@ -43,23 +43,23 @@ first_names errors n are =
     (sym (list_all-append (λ e. is_repeated_name (fault_of e)) (take n errors) (drop n errors))
     ∙ ap (list_all (λ e. is_repeated_name (fault_of e))) (take-append-drop n errors) ∙ are)).0
 
--- such an error is shown at its range
+-- an error about a repeated name is shown at its range
 pub name_location : (root : Located) (fault : Fault) (own : Option TextRange) (other range : TextRange) → is_repeated_name fault ≡ true →
     option_map bounds_of own ≡ range_in fault → range ≡ unwrap_or own other → bounds_of range ≡ location_of root fault
 name_location root (duplicated_args extent name) None other range is own_is range_is = cc
 name_location root (duplicated_args extent name) (Some own) other range is own_is range_is = ap bounds_of range_is ∙ ap (range_or 0) own_is
 name_location root fault own other range is own_is range_is = cc
 
--- it has one
+-- such an error has a range
 has_range : (root : Located) (e : ParseError) → is_repeated_name (fault_of e) ≡ true → (range : TextRange) × (bounds_of range ≡ location_of root (fault_of e))
 has_range root (DuplicatedArgs range name) is = (range, refl)
 has_range root e is = cc
 
--- so many more diagnostics are counted
+-- the same first diagnostics, with a larger count
 abbrev counted : FirstDiagnostics → ℕ → FirstDiagnostics
 counted found more = record { first = found.first; count = found.count + more }
 
--- more such errors are counted
+-- counting the remaining errors about repeated names
 rest_counted : (root : Located) (all : List Fault) (before rest : List ParseError) (most : ℕ) (found : FirstDiagnostics) →
     list_all (λ e. is_repeated_name (fault_of e)) (before ++ rest) ≡ true → AreFirstOf root all (map fault_of before) most found → 0 < most →
     most ≤ length found.first.items → AreFirstOf root all (map fault_of (before ++ rest)) most (counted found (length rest))
@@ -82,7 +82,7 @@ rest_counted root all before (e ∷ rest) most found are first some full =
     (subst (λ es. AreFirstOf root all (map fault_of es) most (counted (counted found 1) (length rest))) moved
     (rest_counted root all (before ++ e ∷ []) rest most (counted found 1) (ap (list_all named) moved ∙ are) one some full))
 
--- after the first ones all are counted
+-- after the first ones, all others are counted
 pub names_counted : (root : Located) (errors : List ParseError) (n most : ℕ) (found new : FirstDiagnostics) →
     list_all (λ e. is_repeated_name (fault_of e)) errors ≡ true → AreFirstOf root (map fault_of errors) (map fault_of (take n errors)) most found → 0 < most →
     (n < length errors → most ≤ length found.first.items) → n ≤ length errors → found.count ≡ n → new.first ≡ found.first → new.count ≡ length errors →

@@ -1,4 +1,4 @@
--- What shows some errors, and one error more.
+-- The diagnostics that show some errors, and one more error.
 use Rattle.std.proofs.Common.{◌≡◌, ◌∙◌, ℕ, ◌+◌, ◌<◌, ◌≤◌, Bool, true, false, if◌then◌else◌, get_or, take, List, [], ◌∷◌, ◌++◌, length, map, sym, ap, subst, arith, refl}
 use Rattle.std.specs.Prelude.{string_bytes}
 use Rattle.std.proofs.lemmas.List.{append_assoc, append-nil, map-append, same_from_push, length_push, map_more, length-map, length-take-le, take_all}
@@ -12,23 +12,23 @@ use Rattle.nix_diagnostics.specs.Locations.{location_of}
 use Rattle.nix_diagnostics.specs.Following.{follows, firsts, firsts_from, next_or, run_ends}
 use Rattle.nix_diagnostics.specs.Shown.{HasMessage, IsFolded, IsSingle, AllFollow, Shows, CoverRuns, none, one_more, shown, ShowsEach, none_each, one_each}
 
--- no diagnostics show no errors
+-- an empty list of diagnostics shows an empty list of errors
 pub nothing_shown : (root : Located) (all faults : List Fault) (ds : List Diagnostic) → faults ≡ [] → ds ≡ [] → Shows root all faults ds
 nothing_shown root all faults ds no_error no_ds = subst (λ f. Shows root all f ds) (sym no_error) (subst (λ r. Shows root all [] r) (sym no_ds) none)
 
--- no errors at all are shown by no diagnostics
+-- a text without errors has no diagnostics
 pub no_errors : (root : Located) (errors : List ParseError) (faults : List Fault) (ds : List Diagnostic) → length errors ≡ 0 →
     map fault_of errors ≡ faults → ds ≡ [] → Shows root faults faults ds
 no_errors root [] faults ds no_error is no_ds = nothing_shown root faults faults ds (sym is) no_ds
 no_errors root (e ∷ es) faults ds no_error is no_ds = absurd (omega (arith, no_error))
 
--- what no diagnostics show is no errors
+-- an empty list of diagnostics shows no error
 pub none_shown : (root : Located) (all faults : List Fault) (ds : List Diagnostic) → Shows root all faults ds → ds ≡ [] → faults ≡ []
 none_shown root all _ _ none is = refl
 none_shown root all _ _ (shown faults more ds fault d are first follow at has_message code from end) is =
     absurd (omega (arith, sym (length_push ds d) ∙ ap length is))
 
--- where an error follows, there is a diagnostic
+-- if an error follows from earlier ones, there is a diagnostic
 pub some_shown : (root : Located) (all faults : List Fault) (ds : List Diagnostic) (fault : Fault) → Shows root all faults ds →
     follows root all faults fault ≡ true → 0 < length ds
 some_shown root all faults [] fault are does =
@@ -36,7 +36,7 @@ some_shown root all faults [] fault are does =
     absurd (grind (arith, never))
 some_shown root all faults (d ∷ ds) fault are does = omega arith
 
--- one error more is shown by a diagnostic that is added
+-- an error that does not follow is shown by a new diagnostic
 pub shown_added : (root : Located) (all faults more : List Fault) (ds next : List Diagnostic) (fault : Fault) (d : Diagnostic) →
     Shows root all faults ds → follows root all faults fault ≡ false → IsSingle root (length faults) fault d →
     more ≡ faults ++ fault ∷ [] → next ≡ ds ++ d ∷ [] → Shows root all more next
@@ -45,18 +45,18 @@ shown_added root all faults more ds next fault d are new single is added =
     (subst (λ r. Shows root all (faults ++ fault ∷ []) r) (sym added)
     (shown faults [] ds fault d are new none single.range single.has_message single.code single.first (single.end ∙ sym (length_push faults fault))))
 
--- one error more is shown by one diagnostic more
+-- one more error is shown by one more diagnostic
 pub each_added : (root : Located) (faults more : List Fault) (ds next : List Diagnostic) (fault : Fault) (d : Diagnostic) → ShowsEach root faults ds →
     IsSingle root (length faults) fault d → more ≡ faults ++ fault ∷ [] → next ≡ ds ++ d ∷ [] → ShowsEach root more next
 each_added root faults more ds next fault d are single is added =
     subst (λ f. ShowsEach root f next) (sym is) (subst (λ r. ShowsEach root (faults ++ fault ∷ []) r) (sym added) (one_each faults ds fault d are single))
 
--- no diagnostics show no errors, one each
+-- an empty list of diagnostics shows an empty list of errors, one each
 pub none_shown_each : (root : Located) (faults : List Fault) (ds : List Diagnostic) → faults ≡ [] → ds ≡ [] → ShowsEach root faults ds
 none_shown_each root faults ds no_error no_ds =
     subst (λ f. ShowsEach root f ds) (sym no_error) (subst (λ r. ShowsEach root [] r) (sym no_ds) none_each)
 
--- no errors have no diagnostics of their own
+-- if there are no errors, there are no diagnostics
 each_none : (root : Located) (faults : List Fault) (ds : List Diagnostic) → ShowsEach root faults ds → faults ≡ [] → ds ≡ []
 each_none root _ _ none_each is = refl
 each_none root _ _ (one_each faults ds fault d are single) is = absurd (omega (arith, sym (length_push faults fault) ∙ ap length is))
@@ -71,13 +71,13 @@ one_shown root _ _ one (one_each [] ds fault d are single) =
 one_shown root _ _ one (one_each (f ∷ faults) ds fault d are single) =
     absurd (omega (arith, length_push faults fault, one))
 
--- the same, of a single error of the program
+-- the same, for a single error of the parser
 pub one_error : (root : Located) (errors : List ParseError) (faults : List Fault) (ds : List Diagnostic) → length errors ≡ 1 →
     map fault_of errors ≡ faults → ShowsEach root faults ds → Shows root faults faults ds
 one_error root errors faults ds one is are =
     one_shown root faults ds (sym (ap length is) ∙ length-map errors fault_of ∙ one) are
 
--- what shows some errors with a last diagnostic, taken apart
+-- the run of errors that the last diagnostic covers, and the errors that the others show
 pub record IsLastRun (root : Located) (all faults : List Fault) (before : List Diagnostic) (d : Diagnostic) : Type 0 where
   pub earlier : List Fault
   pub more : List Fault
@@ -111,7 +111,7 @@ last_run root all _ _ before d (shown earlier more ds fault own are new follow a
       first = subst (λ (x : Diagnostic). x.first_error ≡ length earlier) same.1 first;
     }
 
--- one error more is shown by the last diagnostic
+-- an error that follows is shown by the last diagnostic
 pub shown_folded : (root : Located) (all faults more : List Fault) (number : ℕ) (old new : List Diagnostic) (fault : Fault) →
     Shows root all faults old → IsFolded number old new → follows root all faults fault ≡ true → number ≡ length faults →
     more ≡ faults ++ fault ∷ [] → Shows root all more new
@@ -137,17 +137,17 @@ pub all_shown : (root : Located) (errors : List ParseError) (faults : List Fault
 all_shown root errors faults n ds is done are =
     subst (λ f. Shows root f f ds) is (subst (λ es. Shows root (map fault_of errors) (map fault_of es) ds) (take_all n errors done) are)
 
--- so many errors are before the error of a number
+-- i errors come before the error with index i
 pub count_before : (errors : List ParseError) (i : ℕ) → i < length errors → i ≡ length (map fault_of (take i errors))
 count_before errors i is_there = sym (length-map (take i errors) fault_of ∙ length-take-le i errors (omega (arith, is_there)))
 
--- the errors up to that of a number are those before it, and it
+-- the errors up to index i are those before it, and that error
 pub up_to : (errors : List ParseError) (i : ℕ) (e : ParseError) → i < length errors → e ≡ get_or errors i e →
     map fault_of (take (i + 1) errors) ≡ map fault_of (take i errors) ++ fault_of e ∷ []
 up_to errors i e is_there is =
     map_more fault_of errors i e is_there ∙ ap (λ x. map fault_of (take i errors) ++ fault_of x ∷ []) (sym is)
 
--- the first errors of runs among some errors and more
+-- the errors that follow from no earlier one, in two concatenated lists of errors
 firsts_append : (root : Located) (all before faults more : List Fault) →
     firsts_from root all before (faults ++ more) ≡ firsts_from root all before faults ++ firsts_from root all (before ++ faults) more
 firsts_append root all before [] more = ap (λ b. firsts_from root all b more) (sym (append-nil before))
@@ -171,7 +171,7 @@ none_first root all before _ (one_more faults fault follow does) =
     ∙ ap (λ ns. ns ++ firsts_from root all (before ++ faults) (fault ∷ [])) (none_first root all before faults follow)
     ∙ ap (λ b. if b then [] else length (before ++ faults) ∷ []) does
 
--- an error that does not follow begins one, with those that do
+-- an error that does not follow begins a run, which covers the errors that follow
 one_first : (root : Located) (all before more : List Fault) (fault : Fault) → follows root all before fault ≡ false →
     AllFollow root all (before ++ fault ∷ []) more →
     firsts_from root all [] (before ++ fault ∷ more) ≡ firsts_from root all [] before ++ length before ∷ []
@@ -181,7 +181,7 @@ one_first root all before more fault does_not follow =
     else length before ∷ firsts_from root all (before ++ fault ∷ []) more)) does_not
     ∙ ap (λ ns. firsts_from root all [] before ++ length before ∷ ns) (none_first root all (before ++ fault ∷ []) more follow)
 
--- where runs end, with one more
+-- where runs end, with one more run
 ends_push : (end first : ℕ) (runs : List ℕ) → run_ends end (runs ++ first ∷ []) ≡ run_ends first runs ++ end ∷ []
 ends_push end first [] = refl
 ends_push end first (n ∷ runs) = (λ k. next runs k ∷ ends_push end first runs k) where
@@ -198,7 +198,7 @@ begins_run root all _ _ (shown faults more ds fault d are new follow at has_mess
     ∙ (λ k. begins_run root all faults ds are k ++ first k ∷ [])
     ∙ sym (one_first root all faults more fault new follow)
 
--- and ends where the next one begins
+-- and ends where the next diagnostic begins
 ends_run : (root : Located) (all faults : List Fault) (ds : List Diagnostic) → Shows root all faults ds →
     map (λ (d : Diagnostic). d.end_error) ds ≡ run_ends (length faults) (firsts_from root all [] faults)
 ends_run root all _ _ none = refl
@@ -208,6 +208,6 @@ ends_run root all _ _ (shown faults more ds fault d are new follow at has_messag
     ∙ sym (ends_push (length (faults ++ fault ∷ more)) (length faults) (firsts_from root all [] faults))
     ∙ ap (run_ends (length (faults ++ fault ∷ more))) (sym (one_first root all faults more fault new follow))
 
--- which errors each diagnostic covers is fixed
+-- the errors alone determine which of them each diagnostic covers
 pub covers_runs : (root : Located) (all : List Fault) (ds : List Diagnostic) → Shows root all all ds → CoverRuns root all ds
 covers_runs root all ds are = record { starts = begins_run root all all ds are; end = ends_run root all all ds are }

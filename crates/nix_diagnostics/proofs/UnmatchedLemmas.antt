@@ -1,4 +1,4 @@
--- One token more, and the first token that closes nothing.
+-- One more token, and the first token that closes nothing.
 use Rattle.std.proofs.Common.{◌≡◌, ◌∙◌, Bool, true, false, List, [], ◌∷◌, ◌++◌, reverse, Option, Some, None, ap, sym, refl, arith, if◌then◌else◌}
 use Rattle.std.specs.Prelude.{is_some, is_none, not, ◌||◌, option_map}
 use Rattle.std.proofs.lemmas.List.{reverse-append}
@@ -12,17 +12,17 @@ use Rattle.rnix_green.specs.Walk.{Spot}
 use Rattle.nix_diagnostics.specs.Brackets.{opens, closes}
 use Rattle.nix_diagnostics.specs.Unmatched.{opener_of, is_open, open_around, closes_none, after_closing, open_after, unmatched_in, unmatched_or}
 
--- an option that is none
+-- an option without a value is `None`
 none_is : {X : Type 0} (o : Option X) → is_none o ≡ true → o ≡ None
 none_is None is = refl
 none_is (Some x) is = absurd (grind (arith, is))
 
--- a test whose negation passes
+-- a test whose negation passes is false
 not_true : (b : Bool) → not b ≡ true → b ≡ false
 not_true true is = absurd (grind (arith, is))
 not_true false is = refl
 
--- a token that opens nothing and closes nothing
+-- a token that neither opens nor closes anything changes nothing
 pub passed : (o : Option Extent) (stack : List SyntaxKind) (token : Located) (kind : SyntaxKind) (spots : List Spot) → kind ≡ (item_of token).kind →
     (opens kind || closes kind) ≡ false → unmatched_or o stack ((false, token) ∷ spots) ≡ unmatched_or o stack spots
 passed (Some range) stack token kind spots same is = refl
@@ -36,13 +36,13 @@ passed None stack token kind spots same is =
     (λ i. if closes_none (no_opener i) stack then Some (extent_of token)
     else unmatched_in (if no_opening i then own ∷ after_closing (no_opener i) stack else after_closing (no_opener i) stack) spots)
 
--- one that was found stays
+-- once an unmatched token was found, it stays the result
 pub stays : (o : Option TextRange) (stack : List SyntaxKind) (spot : Spot) (spots : List Spot) → is_some o ≡ true →
     unmatched_or (option_map bounds_of o) stack (spot ∷ spots) ≡ unmatched_or (option_map bounds_of o) stack spots
 stays None stack spot spots is = absurd (grind (arith, is))
 stays (Some range) stack spot spots is = refl
 
--- a token that closes nothing is found
+-- a token that closes nothing is the result
 pub found_now : (o : Option TextRange) (stack more : List SyntaxKind) (token : Located) (kind : SyntaxKind) (range : TextRange) (spots : List Spot) →
     is_some o ≡ false → kind ≡ (item_of token).kind → closes_none (opener_of kind) stack ≡ true → bounds_of range ≡ extent_of token →
     unmatched_or (option_map bounds_of o) stack ((false, token) ∷ spots) ≡ unmatched_or (Some (bounds_of range)) more spots
@@ -76,31 +76,31 @@ pub not_opened : (kind : SyntaxKind) (stack remaining : List SyntaxKind) → ope
 not_opened kind stack remaining is same =
     same ∙ sym (ap (λ b. if b then kind ∷ after_closing (opener_of kind) stack else after_closing (opener_of kind) stack) is)
 
--- at the end of a walk there is the one that was found, if one was
+-- at the end of a walk, the result is the token that was found, if any
 pub finished : (o : Option TextRange) (stack : List SyntaxKind) → unmatched_or (option_map bounds_of o) stack [] ≡ option_map bounds_of o
 finished None stack = refl
 finished (Some range) stack = refl
 
--- the innermost one is of another kind
+-- an innermost token of another kind does not change whether one of the kind is open
 pub is_open_inside : (kind innermost : SyntaxKind) (stack : List SyntaxKind) → same_kind innermost kind ≡ false →
     is_open kind (reverse (stack ++ innermost ∷ [])) ≡ is_open kind (reverse stack)
 is_open_inside kind innermost stack other =
     ap (is_open kind) (reverse-append stack (innermost ∷ [])) ∙ ap (λ b. if b then true else is_open kind (reverse stack)) other
 
--- and so are those around it
+-- nor what is open around one
 pub around_inside : (kind innermost : SyntaxKind) (stack : List SyntaxKind) → same_kind innermost kind ≡ false →
     open_around kind (reverse (stack ++ innermost ∷ [])) ≡ open_around kind (reverse stack)
 around_inside kind innermost stack other =
     ap (open_around kind) (reverse-append stack (innermost ∷ []))
     ∙ ap (λ b. if b then reverse stack else open_around kind (reverse stack)) other
 
--- the innermost one is of the kind
+-- if the innermost token is of the kind, one is open
 pub is_open_here : (kind innermost : SyntaxKind) (stack : List SyntaxKind) → same_kind innermost kind ≡ true →
     is_open kind (reverse (stack ++ innermost ∷ [])) ≡ true
 is_open_here kind innermost stack is =
     ap (is_open kind) (reverse-append stack (innermost ∷ [])) ∙ ap (λ b. if b then true else is_open kind (reverse stack)) is
 
--- and the others are around it
+-- and the other tokens are around it
 pub around_here : (kind innermost : SyntaxKind) (stack : List SyntaxKind) → same_kind innermost kind ≡ true →
     open_around kind (reverse (stack ++ innermost ∷ [])) ≡ reverse stack
 around_here kind innermost stack is =

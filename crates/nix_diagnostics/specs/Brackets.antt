@@ -37,15 +37,15 @@ abbrev pub has_range : Option Extent → Located → Bool
 has_range None token = false
 has_range (Some range) token = range.start == (item_of token).start && range.end == (item_of token).end
 
--- a token closes something around the walk, in which so much is open before the token; the unmatched token closes nothing
+-- a token closes something opened before the walk, where `depth` tokens opened in the walk are still open; the unmatched token closes nothing
 abbrev pub closes_around : Option Extent → ℕ → Located → Bool
 closes_around unmatched depth token = closes (item_of token).kind && (depth == 0 && not (has_range unmatched token))
 
--- how much is open after a token of the kind; `then` closes `if`, and opens what `else` closes
+-- the number of open tokens after a token of the kind; `then` closes `if`, and opens what `else` closes
 abbrev pub depth_after : ℕ → SyntaxKind → ℕ
 depth_after depth kind = (if closes kind then depth - 1 else depth) + (if opens kind then 1 else 0)
 
--- the tokens of a walk, in which so much is open, close something around it or leave something open
+-- the tokens of a walk close something opened before it, or leave something open, where `depth` tokens are open already
 abbrev pub is_unbalanced : Option Extent → ℕ → List Spot → Bool
 is_unbalanced unmatched depth [] = nat_lt 0 depth
 is_unbalanced unmatched depth (spot ∷ spots) =

@@ -6,7 +6,7 @@ use Rattle.nix_diagnostics.specs.Shown.{AreShown, CoverRuns, IsFolded}
 use Rattle.nix_diagnostics.specs.declared.diagnostic.Diagnostic.{Diagnostic}
 use Rattle.nix_diagnostics.specs.declared.diagnostic.FirstDiagnostics.{FirstDiagnostics}
 
--- at most so many of the diagnostics that show the errors of a text, from the first on, and the number of all
+-- the first diagnostics of the errors of a text, at most `most`, and the number of all diagnostics
 pub record AreFirst (root : Located) (faults : List Fault) (most : ℕ) (found : FirstDiagnostics) : Type 0 where
   pub all : List Diagnostic
   pub shown : AreShown root faults all

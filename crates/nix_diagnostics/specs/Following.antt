@@ -70,7 +70,7 @@ loses_at root all fault =
     is_none (range_in fault) || (nat_le (end_of_items root) (location_of root fault).end
     || (is_from (lost_from root all) (location_of root fault).start || skips root fault))
 
--- the parser loses its way at an error, which is such a token error
+-- the parser loses its way at an error, which is a token error
 abbrev pub loses : Located → List Fault → Fault → Bool
 loses root all fault = is_token_error fault && loses_at root all fault
 

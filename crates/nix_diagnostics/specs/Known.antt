@@ -14,7 +14,7 @@ use Rattle.nix_diagnostics.specs.Independence.{since, larger, ends_between, reac
 use Rattle.nix_diagnostics.specs.declared.folding.Folding.{Folding}
 use Rattle.nix_diagnostics.specs.declared.brackets.Matching.{Matching}
 
--- what is known of the tokens of a text
+-- what a `Matching` says about the tokens of a text
 pub record IsMatching (root : Located) (m : Matching) : Type 0 where
   pub end : m.end ≡ end_of_items root
   pub last : m.last ≡ last_kind root

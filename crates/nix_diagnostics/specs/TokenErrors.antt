@@ -1,4 +1,4 @@
--- TokenErrors: errors about unexpected or missing tokens.
+-- Token errors: errors about unexpected or missing tokens.
 use Rattle.std.specs.Prelude.{Bool, true, false}
 use Rattle.rnix_grammar.specs.Fault.{Fault, extra, duplicated_args}
 

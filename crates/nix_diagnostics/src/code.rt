@@ -6,7 +6,7 @@ ghost use Rattle.nix_diagnostics.specs.Codes.{code_of, code_name, severity_of, s
 
 use rnix::ParseError;
 
-/// How serious something is that a diagnostic reports.
+/// The severity of what a diagnostic reports.
 #[derive(Clone, Copy, Debug, PartialEq, Eq)]
 pub enum Severity {
     /// Nix refuses the text, or this library does not parse all of it.

@@ -18,7 +18,7 @@ fn is_of_string(kind: SyntaxKind) -> bool
     matches!(kind, TOKEN_STRING_START | TOKEN_STRING_CONTENT)
 }
 
-/// Returns whether a text ends inside a string, by the kind of its last token other than trivia.
+/// Returns whether a text ends inside a string, given the kind of its last token other than trivia.
 pub fn ends_in_string(last: Option<SyntaxKind>) -> bool
     ensures { result ≡ passes is_of_string last }
 {
@@ -28,7 +28,7 @@ pub fn ends_in_string(last: Option<SyntaxKind>) -> bool
     }
 }
 
-/// Returns whether a text ends with a token that closes something, by the kind of its last token other than trivia.
+/// Returns whether a text ends with a token that closes something, given the kind of its last token other than trivia.
 pub fn ends_closed(last: Option<SyntaxKind>) -> bool
     ensures { result ≡ passes closes last }
 {
@@ -48,7 +48,7 @@ fn is_at_end(error: &ParseError) -> bool
     )
 }
 
-// Returns whether a text ends too early, by its errors.
+// Returns whether a text ends too early, given its errors.
 fn ends_early(errors: &[ParseError]) -> bool
     ensures { result ≡ ends_early (map fault_of errors.now) }
 {
@@ -84,7 +84,7 @@ fn first_opening(root: &SyntaxNode<'_>, end: usize) -> Option<usize>
     None
 }
 
-/// Returns the offset from which on errors follow from what is never closed, if the text ends too early.
+/// Returns the offset from which errors follow from something that is never closed, if the text ends too early.
 pub fn lost_from(root: &SyntaxNode<'_>, errors: &[ParseError], end: usize) -> Option<usize>
     requires { end ≡ end_of_items root.now }
     ensures { result ≡ lost_from root.now (map fault_of errors.now) }

@@ -4,7 +4,7 @@ use crate::unexpected::UnexpectedToken;
 use SyntaxKind::*;
 use rnix::SyntaxKind;
 
-/// A guess at what was meant, by what was written.
+/// A guess at what was meant, named after what was written.
 #[derive(Clone, Copy, PartialEq, Eq)]
 pub enum Hint {
     /// A `,` or `;` in a list.

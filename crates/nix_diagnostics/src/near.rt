@@ -1,4 +1,4 @@
-//! Places that are near each other in a text.
+//! Offsets that are near each other in a text.
 
 ghost use Rattle.std.specs.Prelude.{◌≡◌, false, nat_lt};
 ghost use Rattle.nix_diagnostics.specs.Following.{is_blank, words, are_close};

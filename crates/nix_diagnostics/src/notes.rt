@@ -86,7 +86,7 @@ fn first_argument(
     None
 }
 
-// Returns the place before an unexpected token where a ";" is missing.
+// Returns the note on the position before an unexpected token where a `;` is missing.
 fn missing_semicolon(unexpected: &UnexpectedToken<'_>) -> Option<Note> {
     let offset = match unexpected.parent.kind() {
         NODE_INHERIT if unexpected.token.kind() == TOKEN_ASSIGN => {
@@ -126,7 +126,7 @@ fn open_inherit(
     })
 }
 
-// Returns the note on an unexpected token: a hint, or the place where a `;` is missing. If `is_explained`, an unclosed opening explains the error, and only
+// Returns the note on an unexpected token: a hint, or the position where a `;` is missing. If `is_explained`, an unclosed opening explains the error, and only
 // hints are returned.
 fn remark(
     unexpected: &UnexpectedToken<'_>,

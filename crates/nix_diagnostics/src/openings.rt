@@ -77,7 +77,7 @@ pub fn opener_of(closing: SyntaxKind) -> Option<SyntaxKind>
 /// The openings that are not yet closed after some tokens of a text, up to the first token that closes nothing.
 #[derive(Drop)]
 pub struct Openings {
-    // The kinds of the tokens that opened it, the innermost last.
+    // The kinds of the open tokens, innermost last.
     opened: Vec<SyntaxKind>,
     /// The first token that closes nothing. No token after it is read.
     pub extra: Option<TextRange>,

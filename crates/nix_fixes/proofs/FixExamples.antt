@@ -10,10 +10,10 @@ no_comma = refl
 semicolon : spliced (codes "{ a = 1 # one\n}") 7 7 (codes ";") ≡ codes "{ a = 1; # one\n}"
 semicolon = refl
 
--- at the end of a text nothing follows
+-- at the end of a text, nothing follows the fix
 at_end : spliced (codes "{ a = 1;") 8 8 (codes "\n}") ≡ codes "{ a = 1;\n}"
 at_end = refl
 
--- the content of other quotes
+-- the content of a text in other quotes
 quoted : bytes_between 1 4 (codes "'1.0'") ≡ codes "1.0"
 quoted = refl

@@ -1,4 +1,4 @@
--- What follows of a fix that was tried.
+-- What follows from a fix that was tried.
 use Rattle.std.proofs.Common.{◌≡◌, ℕ, ◌+◌, ◌<◌, ◌≤◌, List, length, subst, sym, ap, refl, arith, string_bytes}
 use Rattle.std.specs.Str.{IsUtf8}
 use Rattle.std.proofs.lemmas.Str.{IsUtf8-string_bytes}
@@ -11,7 +11,7 @@ use Rattle.nix_fixes.specs.Fixes.{text_with, HasFewer, HasNoFewer, IsFix, IsFixe
 use Rattle.nix_fixes.specs.Tries.{IsTried}
 use Rattle.nix_fixes.specs.Rounds.{IsProgress}
 
--- what was tried so is a fix
+-- a fix that was tried with success is a fix
 pub tried_fix : (text : List ℕ) (errors : ℕ) (tried : Tried) → IsTried text errors tried → IsFix text errors tried.fix
 tried_fix text errors tried h = record {
   characters = h.characters;
@@ -35,11 +35,11 @@ fixed_more text old count read tried fixed is_read h =
       is = h.made;
     })
 
--- a text that has no fewer errors than a number has no fewer than a smaller one
+-- a text with no fewer errors than a number has no fewer than a smaller number
 pub no_fewer : (text : List ℕ) (most least : ℕ) → HasNoFewer text most → least ≤ most → HasNoFewer text least
 no_fewer text most least h fits = record { read = h.read; is_read = h.is_read; more = omega (arith, h.more, fits) }
 
--- a text before its first fix
+-- before the first fix
 pub begun : (text : List ℕ) (p : Progress) → string_bytes p.made ≡ text → IsParsed (tokens_of text) p.read.tree p.read.faults → p.fixes ≡ 0 → IsProgress text p
 begun text p made is_read none = record {
   fixed = subst (λ n. IsFixed text n (string_bytes p.made)) (sym none) (subst (λ t. IsFixed text 0 t) (sym made) unchanged);
@@ -47,7 +47,7 @@ begun text p made is_read none = record {
   fewer = record { read = p.read; is_read = is_read; more = omega (arith, none) };
 }
 
--- a text after one more fix
+-- after one more fix
 pub advanced : (text : List ℕ) (old new : Progress) (next : Tried) (count : ℕ) → IsProgress text old →
     IsTried (string_bytes old.made) (length old.read.faults) next → old.fixes ≡ count → new.made ≡ next.made → new.read ≡ next.read →
     new.fixes ≡ count + 1 → IsProgress text new

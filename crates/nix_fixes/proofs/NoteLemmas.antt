@@ -1,11 +1,11 @@
--- What is known of a note after its replacement was tried.
+-- What is known about a note after its replacement was tried.
 use Rattle.std.proofs.Common.{◌≡◌, ◌∙◌, ℕ, ◌<◌, ◌+◌, List, [], ◌∷◌, ◌++◌, length, take, drop, get_or, Option, Some, None, Result, Ok, Err, IfOk, IfSome, IfNone, unwrap_or, ap, sym, subst}
 use Rattle.std.proofs.lemmas.List.{take-append-drop, drop_more}
 use Rattle.nix_diagnostics.specs.declared.{notes.Note.{Note}, replacement.Replacement.{Replacement}}
 use Rattle.nix_fixes.specs.declared.{fix.Fix.{Fix}, tried.Tried.{Tried}}
 use Rattle.nix_fixes.specs.Fixes.{IsProposed, DoesNotHelp, HasNoFix, HaveNoFix, IsOfNote, IsFirstFix}
 
--- a fix that the replacement of a note proposes is of the note
+-- a fix that comes from the replacement of a note is the one that the note proposes
 pub of_note : {E : Type 0} (text : List ℕ) (note : Note) (r : Replacement) (result : Result (Option Tried) E) → note.replacement ≡ Some r →
     IfOk result (λ found. IfSome found (λ tried. IsProposed text r tried.fix)) → IfOk result (λ found. IfSome found (λ tried. IsOfNote text note tried.fix))
 of_note text note r (Ok (Some tried)) is h = record { replacement = r; has = is; proposed = h }

@@ -1,4 +1,4 @@
--- Replacements of bytes of a text, and those with which it has fewer errors.
+-- Replacements of bytes in a text, and fixes: those after which the text has fewer errors.
 use Rattle.std.specs.Prelude.{◌≡◌, ℕ, ◌+◌, ◌-◌, ◌<◌, ◌≤◌, List, ◌∷◌, ◌++◌, length, take, drop, Option, Some, string_bytes}
 use Rattle.std.specs.{List.All, Str.{IsCharBoundary, IsUtf8}}
 use Rattle.rnix_kinds.specs.Lexical.Tokens.{tokens_of}
@@ -28,19 +28,19 @@ text_with text fix = spliced text fix.range.start fix.range.end (string_bytes fi
 abbrev pub IsOfCharacters : List ℕ → TextRange → Type 0
 IsOfCharacters text range = IsCharBoundary text range.start × IsCharBoundary text range.end
 
--- a text is read with so many errors
+-- a text is parsed with this number of errors
 pub record IsReadWith (text : List ℕ) (errors : ℕ) : Type 0 where
   pub read : Reading
   pub is_read : IsParsed (tokens_of text) read.tree read.faults
   pub count : length read.faults ≡ errors
 
--- a text is read with fewer errors than a number
+-- a text is parsed with fewer errors than a number
 pub record HasFewer (text : List ℕ) (errors : ℕ) : Type 0 where
   pub read : Reading
   pub is_read : IsParsed (tokens_of text) read.tree read.faults
   pub fewer : length read.faults < errors
 
--- a text is read with that number of errors, or more
+-- a text is parsed with at least this number of errors
 pub record HasNoFewer (text : List ℕ) (errors : ℕ) : Type 0 where
   pub read : Reading
   pub is_read : IsParsed (tokens_of text) read.tree read.faults
@@ -57,7 +57,7 @@ pub record IsProposed (text : List ℕ) (r : Replacement) (fix : Fix) : Type 0 w
   pub range : fix.range ≡ r.range
   pub new : string_bytes fix.text ≡ new_text text r
 
--- a replacement is useless: if it names whole characters, the text with it has no fewer errors than a number
+-- a replacement does not help: if its range begins and ends between characters, the text with it has no fewer errors than a number
 abbrev pub DoesNotHelp : List ℕ → ℕ → Replacement → Type 0
 DoesNotHelp text errors r =
     IsOfCharacters text r.kept → IsOfCharacters text r.range → HasNoFewer (spliced text r.range.start r.range.end (new_text text r)) errors
@@ -70,13 +70,13 @@ HasNoFix text errors note = (r : Replacement) → note.replacement ≡ Some r �
 abbrev pub HaveNoFix : List ℕ → ℕ → List Note → Type 0
 HaveNoFix text errors notes = All (HasNoFix text errors) notes
 
--- a fix is what a note proposes
+-- a fix is the one that a note proposes
 pub record IsOfNote (text : List ℕ) (note : Note) (fix : Fix) : Type 0 where
   pub replacement : Replacement
   pub has : note.replacement ≡ Some replacement
   pub proposed : IsProposed text replacement fix
 
--- a fix is what a note proposes, before which no note has a replacement that helps
+-- a fix is the one that a note proposes, and no earlier note has a replacement that helps
 pub record IsFirstFix (text : List ℕ) (errors : ℕ) (notes : List Note) (fix : Fix) : Type 0 where
   pub before : List Note
   pub note : Note
@@ -93,7 +93,7 @@ pub record IsFixedOnce (old new : List ℕ) : Type 0 where
   pub fixes : IsFix old errors fix
   pub is : new ≡ text_with old fix
 
--- a text becomes another one by so many fixes, one after the other
+-- a text becomes another one by a number of fixes, one after another
 pub data IsFixed (text : List ℕ) : ℕ → List ℕ → Type 0 where
   unchanged : IsFixed text 0 text
   once_more : (count : ℕ) (old new : List ℕ) → IsFixed text count old → IsFixedOnce old new → IsFixed text (count + 1) new

@@ -1,4 +1,4 @@
--- A diff of two texts turns each of them into the other one.
+-- A diff of two texts turns each of them into the other.
 use Rattle.std.proofs.Common.{◌≡◌, ℕ, ◌==◌, List, [], ◌∷◌, true, false, Some, refl, ap, sym, ◌∙◌}
 use Rattle.std.proofs.lemmas.Slice.Eq.{bytes_eq-Decides}
 use Rattle.std.specs.{Prelude.{None, option_map, option_and_then, if◌then◌else◌}, List.concat, Str.bytes_eq}
@@ -6,11 +6,11 @@ use Rattle.nix_format.specs.declared.diff.DiffLine.{DiffLine, TheVariants.{Commo
 use Rattle.nix_format.specs.Diff.{line_feed, lines_with, lines_of, old_lines, new_lines, IsDiff}
 use Rattle.nix_format.specs.Applied.{after_line, applied_to, applied, reversed}
 
--- lines that begin with a line
+-- removing a line from lines that begin with it
 pub after_itself : (line : List ℕ) (rest : List (List ℕ)) → after_line line (line ∷ rest) ≡ Some rest
 after_itself line rest = ap (λ t. if t then Some rest else None) ((bytes_eq-Decides line line).1 refl)
 
--- a diff makes the lines of the new text of those of the old one
+-- applying a diff to the lines of the old text makes those of the new text
 makes_new : (diff : List DiffLine) → applied_to diff (old_lines diff) ≡ Some (new_lines diff)
 makes_new [] = refl
 makes_new (Common line ∷ diff) =
@@ -19,7 +19,7 @@ makes_new (Common line ∷ diff) =
 makes_new (Removed line ∷ diff) = ap (option_and_then (applied_to diff)) (after_itself line.now (old_lines diff)) ∙ makes_new diff
 makes_new (Added line ∷ diff) = ap (option_map (λ made. line.now ∷ made)) (makes_new diff)
 
--- the lines of a text, joined, are the text
+-- the concatenated lines of a text are the text
 joined_with : (b : ℕ) (lines : List (List ℕ)) → concat (lines_with b lines) ≡ b ∷ concat lines
 joined_with b [] = refl
 joined_with b (line ∷ lines) =
@@ -36,7 +36,7 @@ diff_applies old new diff h =
     ap (λ ls. option_map concat (applied_to diff ls)) (sym h.olds) ∙ ap (option_map concat) (makes_new diff ∙ ap Some h.news)
     ∙ ap Some (lines_joined new)
 
--- the old lines of a reversed diff are the new ones of the diff, and the other way round
+-- the old lines of a reversed diff are the new ones of the diff, and vice versa
 olds_reversed : (diff : List DiffLine) → old_lines (reversed diff) ≡ new_lines diff
 olds_reversed [] = refl
 olds_reversed (Common line ∷ diff) = ap (λ ls. line.now ∷ ls) (olds_reversed diff)

@@ -1,4 +1,4 @@
--- Lines that are cut off a text, and diffs that grow.
+-- Lines that are split off a text, and diffs that grow.
 use Rattle.std.proofs.Common.{◌≡◌, ℕ, suc, ◌+◌, ◌<◌, ◌==◌, List, [], ◌∷◌, ◌++◌, length, take, drop, map, get_or, Bool, true, false, Option, Some, None, refl, ap, sym, subst, ◌∙◌, arith, append_assoc}
 use Rattle.std.proofs.lemmas.{Bool.{ne_eqb}, List.{append-nil, append_cancel_left, map-append, take_more, drop_more, take-append-drop, length-append, length-drop, nil_from_length}}
 use Rattle.std.proofs.lemmas.{List.Concat.{flat_map-append}, Str.Pattern.{NoCharPasses-char, drop_at_char}}
@@ -11,11 +11,11 @@ use Rattle.nix_format.specs.Diff.{line_feed, lines_with, lines_of, old_line, new
 abbrev HasNoFeed : List ℕ → Type 0
 HasNoFeed bs = (i : ℕ) → i < length bs → get_or bs i 0 ≢ line_feed
 
--- nor has the text after its first byte
+-- nor does the text after its first byte
 rest_has_none : (b : ℕ) (bs : List ℕ) → HasNoFeed (b ∷ bs) → HasNoFeed bs
 rest_has_none b bs none i less = none (suc i) (omega (arith, less))
 
--- another byte begins the first line
+-- a byte other than a line feed continues the first line
 begins_line : (b : ℕ) (line : List ℕ) (lines : List (List ℕ)) → b ≢ line_feed → lines_with b (line ∷ lines) ≡ (b ∷ line) ∷ lines
 begins_line b line lines other =
     ap (λ t. if t then (b ∷ []) ∷ line ∷ lines else (b ∷ line) ∷ lines) (ne_eqb b line_feed other)
@@ -36,7 +36,7 @@ first_line [] rest none = feed_ends (lines_of rest)
 first_line (b ∷ bs) rest none =
     ap (lines_with b) (first_line bs rest (rest_has_none b bs none)) ∙ begins_line b (bs ++ line_feed ∷ []) (lines_of rest) (none 0 (omega arith))
 
--- a line that is all of the text
+-- a line that is the whole text
 whole_line : (text rest : List ℕ) → text ≡ text ++ rest → 0 < length text → HasNoFeed text → lines_of text ≡ text ∷ lines_of rest
 whole_line [] rest cut some none = absurd (omega (arith, some))
 whole_line (b ∷ bs) [] cut some none = one_line b bs none
@@ -57,7 +57,7 @@ line_to_feed text line rest i j cut found is none =
     ap lines_of split ∙ first_line (take i text) (drop j text) none
     ∙ ap (λ z. z ∷ lines_of (drop j text)) (sym ends) ∙ ap (λ z. line ∷ lines_of z) (sym (append_cancel_left line rest (drop j text) same))
 
--- what is cut off a text up to its first line feed is its first line
+-- the part of a text up to its first line feed is its first line
 line_cut : (text line rest : List ℕ) (at : Option (ℕ × ℕ)) → text ≡ line ++ rest → FindsChar line_feed text at
     → MatchOption at ((line ≡ text) × (0 < length text)) (λ q. 0 < q.1 → line ≡ take q.1 text) → lines_of text ≡ line ∷ lines_of rest
 line_cut text line rest None cut found is =
@@ -67,7 +67,7 @@ line_cut text line rest (Some q) cut found is =
     line_to_feed text line rest q.0 q.1 cut found.1 (is (omega (arith, found.1.ends)))
     (λ i less. NoCharPasses-char line_feed (take q.0 text) i found.0 (omega arith) less)
 
--- one more line is cut off a text
+-- one more line is split off a text
 pub line_next : (lines more : List Line) (line : Line) (text rest : List ℕ) (pattern : ℕ) (all : List (List ℕ)) → more ≡ lines ++ line ∷ []
     → pattern ≡ line_feed → text ≡ line.text.now ++ rest → EndsAtFirstMatch (FindsChar pattern) text line.text.now
     → texts_of lines ++ lines_of text ≡ all → texts_of more ++ lines_of rest ≡ all
@@ -78,7 +78,7 @@ line_next lines more line text rest pattern all grown is_feed cut ends before =
     ∙ append_assoc (texts_of lines) (line.text.now ∷ []) (lines_of rest)
     ∙ ap (λ z. texts_of lines ++ z) (sym (line_cut text line.text.now rest ends.0 cut found ends.2)) ∙ before
 
--- nothing is left of the text
+-- nothing remains of the text
 pub no_line_next : (lines : List Line) (rest : List ℕ) (all : List (List ℕ)) → length rest ≡ 0 → texts_of lines ++ lines_of rest ≡ all
     → texts_of lines ≡ all
 no_line_next lines rest all none is =

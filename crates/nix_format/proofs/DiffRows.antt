@@ -1,4 +1,4 @@
--- What the definitions say of certain texts.
+-- The definitions for certain texts, by computation.
 use Rattle.std.proofs.Common.{◌≡◌, ℕ, List, [], ◌∷◌, ◌++◌, Some, refl, ap, ◌∙◌, arith}
 use Rattle.std.proofs.lemmas.Fmt.{decimal_digit}
 use Rattle.std.specs.Prelude.{None, codes, decimal}
@@ -24,14 +24,14 @@ last_line_ended = refl
 empty_lines : lines_of (10 ∷ 10 ∷ 97 ∷ []) ≡ (10 ∷ []) ∷ (10 ∷ []) ∷ (97 ∷ []) ∷ []
 empty_lines = refl
 
--- an added line comes of nothing, and backwards it goes
+-- a diff with an added line applies to no lines; reversed, it removes the line
 added_comes : (line : Bor (List ℕ)) → applied_to (Added line ∷ []) [] ≡ Some (line.now ∷ [])
 added_comes line = refl
 
 added_goes : (line : Bor (List ℕ)) → reversed (Added line ∷ []) ≡ Removed line ∷ []
 added_goes line = refl
 
--- a line that is not there is not removed, and no line is left over
+-- a line that does not exist cannot be removed, and no line may remain
 removed_missing : (line : Bor (List ℕ)) → applied_to (Removed line ∷ []) [] ≡ None
 removed_missing line = refl
 
@@ -45,7 +45,7 @@ open_line = refl
 ended_line : with_end (codes "a\n") ≡ codes "a\n"
 ended_line = refl
 
--- the lines of a text in a header: none after the fourth, the fifth, and the fifth and two more
+-- ranges in a header: no lines after the fourth, the fifth, and the fifth with two more
 no_range : range_text 4 0 ≡ codes "4,0"
 no_range = ap (λ d. d ++ codes ",0") (decimal_digit 4 (omega arith))
 

@@ -1,4 +1,4 @@
--- What is printed of a text and its formatted text.
+-- The output for a text and its formatted text.
 use Rattle.std.proofs.Common.{◌≡◌, ℕ, Bool, true, false, List, [], Option, sym, subst, refl}
 use Rattle.std.proofs.KnownBytes.{Appends-nil}
 use Rattle.std.specs.Io.KnownBytes.{Appends}
@@ -7,17 +7,17 @@ use Rattle.nix_format.specs.declared.file.Task.TheVariants.{Write, Check, Diff, 
 use Rattle.nix_format.specs.Unified.{IsUnified}
 use Rattle.nix_format.specs.Outcomes.{Prints, changed_name, input_text, IsDiffOf, IsPrinted}
 
--- no diff is printed of equal texts
+-- no diff is printed for equal texts
 pub same_diff : (is_same : Bool) (text made : List ℕ) (old : Option (List ℕ)) → is_same ≡ true → Prints (IsDiffOf is_same text made) old old
 same_diff is_same text made old is = ([], subst (λ (b : Bool). IsDiffOf b text made []) (sym is) refl, Appends-nil old)
 
--- the diff of texts that differ
+-- the diff of texts that differ is printed
 pub other_diff : (is_same : Bool) (text made diff bytes : List ℕ) (old new : Option (List ℕ)) → is_same ≡ false → IsUnified text made diff →
     bytes ≡ diff → Appends old new bytes → Prints (IsDiffOf is_same text made) old new
 other_diff is_same text made diff bytes old new is unified same written =
     (diff, subst (λ (b : Bool). IsDiffOf b text made diff) (sym is) unified, subst (λ (all : List ℕ). Appends old new all) same written)
 
--- what is printed by task
+-- the output, depending on the task
 pub check_printed : (task : Task) (is_same : Bool) (name text made : List ℕ) (old new : Option (List ℕ)) → task ≡ Check →
     Appends old new (changed_name is_same name) → Prints (IsPrinted task is_same name text made) old new
 check_printed task is_same name text made old new is written =

@@ -1,4 +1,4 @@
--- One file more is formatted.
+-- One more file is formatted.
 use Rattle.std.proofs.Common.{◌≡◌, ℕ, ◌+◌, ◌<◌, Bool, List, [], ◌∷◌, ◌++◌, length, map, take, get_or, Option, sym, subst}
 use Rattle.std.specs.{Prelude.{string_bytes, String}, Io.KnownBytes.Appends, declared.alloc.Global.Global}
 use Rattle.nix_cli.proofs.ProcessedLemmas.{names_more}

@@ -8,7 +8,7 @@ use Rattle.nix_format.specs.declared.unified.{Counts.Counts, Hunk.Hunk}
 use Rattle.nix_format.specs.Diff.{old_lines, new_lines}
 use Rattle.nix_format.specs.Hunks.{is_common, is_old, is_new, AreCommon, lines_between, AreCounts, IsNextHunk, AreHunks}
 
--- one line more among the old lines, and among the new ones
+-- one more line, among the old lines and among the new ones
 old_step : (line : DiffLine) (diff : List DiffLine)
     → length (old_lines (line ∷ diff)) ≡ cond (is_old line) (1 + length (old_lines diff)) (length (old_lines diff))
 old_step (Common line) diff = omega arith
@@ -21,24 +21,24 @@ new_step (Common line) diff = omega arith
 new_step (Removed line) diff = refl
 new_step (Added line) diff = omega arith
 
--- how many old lines there are, and how many new ones
+-- the number of old lines, and the number of new ones
 pub olds_counted : (diff : List DiffLine) → length (old_lines diff) ≡ count_by is_old diff
 olds_counted diff = is_count_by (λ d. length (old_lines d)) is_old refl old_step diff
 
 pub news_counted : (diff : List DiffLine) → length (new_lines diff) ≡ count_by is_new diff
 news_counted diff = is_count_by (λ d. length (new_lines d)) is_new refl new_step diff
 
--- the lines up to a number, and those from it up to another one
+-- the lines up to an index are those up to an earlier one and those between the two
 pub lines_split : (diff : List DiffLine) (first end : ℕ) → first ≤ end → take end diff ≡ take first diff ++ lines_between first end diff
 lines_split diff first end h = ap (λ n. take n diff) {x = end} {y = first + (end - first)} (omega arith) ∙ take-add first (end - first) diff
 
--- how many of them pass a test
+-- the number of lines among them that pass a test
 pub passes_split : (p : DiffLine → Bool) (diff : List DiffLine) (first end : ℕ) → first ≤ end
     → count_by p (take end diff) ≡ count_by p (take first diff) + count_by p (lines_between first end diff)
 passes_split p diff first end h =
     ap (count_by p) (lines_split diff first end h) ∙ sum_by-append (λ x. cond (p x) 1 0) (take first diff) (lines_between first end diff)
 
--- the counts of lines, and of those after them, are those of all
+-- the counts of the lines up to an index and of those after them add up to the counts of all
 pub counts_summed : (diff : List DiffLine) (first end : ℕ) (before more sum : Counts) → first ≤ end → AreCounts (take first diff) before
     → AreCounts (lines_between first end diff) more → sum.olds ≡ before.olds + more.olds → sum.news ≡ before.news + more.news
     → AreCounts (take end diff) sum
@@ -47,21 +47,21 @@ counts_summed diff first end before more sum h a b olds news = record {
   news = omega (arith, news, a.news, b.news, passes_split is_new diff first end h);
 }
 
--- counts of the first lines are at most the number of these lines
+-- the counts of the first lines are at most the number of these lines
 pub counts_within : (diff : List DiffLine) (end : ℕ) (counts : Counts) → AreCounts (take end diff) counts → (counts.olds ≤ end) × (counts.news ≤ end)
 counts_within diff end counts h = (
   omega (arith, h.olds, count_by-le-length is_old (take end diff), length-take end diff),
   omega (arith, h.news, count_by-le-length is_new (take end diff), length-take end diff),
 )
 
--- so are sums of counts
+-- so are the sums of counts
 pub counts_fit : (diff : List DiffLine) (first end : ℕ) (before more : Counts) → first ≤ end → AreCounts (take first diff) before
     → AreCounts (lines_between first end diff) more → (before.olds + more.olds ≤ end) × (before.news + more.news ≤ end)
 counts_fit diff first end before more h a b =
     let sum : Counts = record { olds = before.olds + more.olds; news = before.news + more.news } in
     counts_within diff end sum (counts_summed diff first end before more sum h a b refl refl)
 
--- the first lines are common as far as the common lines at the front go
+-- the first lines are common up to the end of the common lines at the beginning
 pub front_common : (count : ℕ) (lines : List DiffLine) → count ≤ prefix_len is_common lines → AreCommon (take count lines)
 front_common zero lines h = refl
 front_common (suc count) [] h = refl
@@ -69,11 +69,11 @@ front_common (suc count) (Common line ∷ lines) h = front_common count lines (o
 front_common (suc count) (Removed line ∷ lines) h = absurd (omega (arith, h))
 front_common (suc count) (Added line ∷ lines) h = absurd (omega (arith, h))
 
--- all lines are common if the common lines at the front are all of them
+-- if the common lines at the beginning are all lines, all lines are common
 pub all_common : (lines : List DiffLine) → length lines ≤ prefix_len is_common lines → AreCommon lines
 all_common lines h = subst AreCommon (take_all (length lines) lines (omega arith)) (front_common (length lines) lines h)
 
--- a hunk around the first change after a line
+-- a hunk around the first change from an index on
 pub hunk_found : (diff : List DiffLine) (index passed : ℕ) (before more : Counts) (hunk : Hunk) → AreCounts (take index diff) before
     → passed ≡ prefix_len is_common (drop index diff) → index ≤ hunk.first → hunk.first ≤ index + passed → hunk.first < hunk.end → hunk.end ≤ length diff
     → AreCounts (lines_between index hunk.first diff) more → hunk.before.olds ≡ before.olds + more.olds → hunk.before.news ≡ before.news + more.news
@@ -87,12 +87,12 @@ hunk_found diff index passed before more hunk a is starts near filled within b o
   counts = counts;
 }
 
--- no hunk follows a line if all lines after it are common
+-- if all lines from an index on are common, no hunk follows
 pub none_found : (diff : List DiffLine) (index passed : ℕ) → passed ≡ prefix_len is_common (drop index diff) → index + passed ≡ length diff
     → AreCommon (drop index diff)
 none_found diff index passed is all = all_common (drop index diff) (omega (arith, is, length-drop index diff))
 
--- each of the hunks of a diff is the next one after some line
+-- each hunk of a diff is the next one from some index on
 pub one_hunk : (diff : List DiffLine) (index : ℕ) (hunks : List Hunk) (i : ℕ) (d : Hunk) → AreHunks diff index hunks → i < length hunks
     → (from : ℕ) × IsNextHunk diff from (get_or hunks i d)
 one_hunk diff index [] i d h less = absurd (omega (arith, less))

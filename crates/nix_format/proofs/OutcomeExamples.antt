@@ -1,4 +1,4 @@
--- What the definitions say of some examples.
+-- The definitions for some examples, by computation.
 use Rattle.std.proofs.Common.{◌≡◌, [], refl}
 use Rattle.std.specs.Prelude.{codes, true, false}
 use Rattle.nix_format.specs.declared.file.Task.TheVariants.{Write, Check, Diff, Print}
@@ -18,15 +18,15 @@ write_status = refl
 print_status : status_of Print record { changed = 1; same = 2; failed = 0 } ≡ 0
 print_status = refl
 
--- all files stay as they are
+-- no file would change
 same_status : status_of Check record { changed = 0; same = 3; failed = 0 } ≡ 0
 same_status = refl
 
--- a file failed
+-- a file has failed
 failed_status : status_of Check record { changed = 1; same = 1; failed = 1 } ≡ 2
 failed_status = refl
 
--- one file more
+-- one more file is counted
 changed_counted : counted Changed record { changed = 1; same = 1; failed = 0 } ≡ record { changed = 2; same = 1; failed = 0 }
 changed_counted = refl
 

@@ -11,14 +11,14 @@ use Rattle.nix_format.specs.Hunks.{AreCommon, lines_between, AreCounts, AreHunks
 use Rattle.nix_format.proofs.AppliedDiffs.{after_itself}
 use Rattle.nix_format.proofs.HunkLemmas.{olds_counted, lines_split}
 
--- the old lines of common lines are the new ones
+-- common lines have the same old and new lines
 common_alike : (lines : List DiffLine) → AreCommon lines → old_lines lines ≡ new_lines lines
 common_alike [] h = refl
 common_alike (Common line ∷ lines) h = ap (λ ls. line.now ∷ ls) (common_alike lines h)
 common_alike (Removed line ∷ lines) h = cc
 common_alike (Added line ∷ lines) h = cc
 
--- lines of a diff make their new lines of their old ones, whatever follows
+-- applying lines of a diff to their old lines makes their new lines, whatever follows
 makes_first : (diff : List DiffLine) (rest : List (List ℕ)) → applied_first diff (old_lines diff ++ rest) ≡ Some (new_lines diff, rest)
 makes_first [] rest = refl
 makes_first (Common line ∷ diff) rest =
@@ -28,14 +28,14 @@ makes_first (Removed line ∷ diff) rest =
     ap (option_and_then (applied_first diff)) (after_itself line.now (old_lines diff ++ rest)) ∙ makes_first diff rest
 makes_first (Added line ∷ diff) rest = ap (option_map (λ made. (line.now ∷ made.0, made.1))) (makes_first diff rest)
 
--- the lines of a diff from a number on: those up to another number, and the rest
+-- the lines of a diff from an index on are those up to another index, and the rest
 drop_split : (diff : List DiffLine) (first end : ℕ) → first ≤ end → drop first diff ≡ lines_between first end diff ++ drop end diff
 drop_split diff first end h =
     sym (take-append-drop (end - first) (drop first diff))
     ∙ ap (λ ls. lines_between first end diff ++ ls)
     (drop-drop (end - first) first diff ∙ ap (λ n. drop n diff) {x = first + (end - first)} {y = end} (omega arith))
 
--- how many old lines there are up to a number
+-- the number of old lines up to an index
 olds_split : (diff : List DiffLine) (first end : ℕ) → first ≤ end
     → length (old_lines (take end diff)) ≡ length (old_lines (take first diff)) + length (old_lines (lines_between first end diff))
 olds_split diff first end h =
@@ -43,7 +43,7 @@ olds_split diff first end h =
     ∙ ap length (flat_map-append old_line (take first diff) (lines_between first end diff))
     ∙ length-append (old_lines (take first diff)) (old_lines (lines_between first end diff))
 
--- the lines of a diff from a number on, as old lines and as new ones
+-- the lines of a diff from an index on, as old lines and as new ones
 olds_parted : (diff : List DiffLine) (first end : ℕ) → first ≤ end
     → old_lines (drop first diff) ≡ old_lines (lines_between first end diff) ++ old_lines (drop end diff)
 olds_parted diff first end h =
@@ -54,7 +54,7 @@ news_parted : (diff : List DiffLine) (first end : ℕ) → first ≤ end
 news_parted diff first end h =
     ap new_lines (drop_split diff first end h) ∙ flat_map-append new_line (lines_between first end diff) (drop end diff)
 
--- a hunk after lines that stay: what it makes of the lines from there on
+-- a hunk after lines that stay: applying it to the lines from there on
 one_patched : (diff : List DiffLine) (hunk : Hunk) (hunks : List Hunk) (done : ℕ) (kept rest made : List (List ℕ))
     → hunk.before.olds - done ≡ length kept → patched_from diff hunks (hunk.before.olds + hunk.counts.olds) rest ≡ Some made
     → patched_from diff (hunk ∷ hunks) done (kept ++ (old_lines (hunk_lines diff hunk) ++ rest)) ≡ Some (kept ++ (new_lines (hunk_lines diff hunk) ++ made))
@@ -69,7 +69,7 @@ one_patched diff hunk hunks done kept rest made gap further =
     ∙ ap (λ o. option_map (λ ls. kept ++ ls) (option_and_then step o)) (makes_first (hunk_lines diff hunk) rest)
     ∙ ap (λ o. option_map (λ ls. kept ++ ls) (option_map (λ more. new_lines (hunk_lines diff hunk) ++ more) o)) further
 
--- the hunks of a diff from the line of a number on
+-- the hunks of a diff from an index on
 patched_rest : (diff : List DiffLine) (index : ℕ) (hunks : List Hunk) → AreHunks diff index hunks
     → patched_from diff hunks (length (old_lines (take index diff))) (old_lines (drop index diff)) ≡ Some (new_lines (drop index diff))
 patched_rest diff index [] h = ap Some (common_alike (drop index diff) h)
@@ -96,7 +96,7 @@ patched_rest diff index (hunk ∷ hunks) h =
     ∙ ap Some (ap (λ ls. ls ++ (new_lines (hunk_lines diff hunk) ++ new_lines (drop hunk.end diff))) (common_alike kept h.0.passed)
     ∙ sym (news_parted diff index hunk.first h.0.starts ∙ ap (λ ls. new_lines kept ++ ls) (news_parted diff hunk.first hunk.end filled)))
 
--- the hunks of a diff turn its old lines into its new ones
+-- applying the hunks of a diff turns its old lines into its new ones
 pub hunks_patch : (diff : List DiffLine) (hunks : List Hunk) (olds news : List (List ℕ)) → AreHunks diff 0 hunks → old_lines diff ≡ olds
     → new_lines diff ≡ news → patched_from diff hunks 0 olds ≡ Some news
 hunks_patch diff hunks olds news h old new = ap (patched_from diff hunks 0) (sym old) ∙ patched_rest diff 0 hunks h ∙ ap Some new

@@ -10,8 +10,8 @@ abbrev pub after_line : List ℕ → List (List ℕ) → Option (List (List ℕ)
 after_line line [] = None
 after_line line (first ∷ rest) = if bytes_eq line first then Some rest else None
 
--- the lines that a diff makes of lines, if it applies to them: a common line is the next one, and stays; a removed line is the next one, and goes; an added
--- line comes before the next one; and at the end no lines are left
+-- the lines after a diff is applied to lines, if it applies: a common line is the next one, and stays; a removed line is the next one, and is dropped; an
+-- added line comes before the next one; and at the end no lines remain
 abbrev pub applied_to : List DiffLine → List (List ℕ) → Option (List (List ℕ))
 applied_to [] [] = Some []
 applied_to [] (line ∷ rest) = None
@@ -19,7 +19,7 @@ applied_to (Common line ∷ diff) lines = option_map (λ made. line.now ∷ made
 applied_to (Removed line ∷ diff) lines = option_and_then (applied_to diff) (after_line line.now lines)
 applied_to (Added line ∷ diff) lines = option_map (λ made. line.now ∷ made) (applied_to diff lines)
 
--- the text that a diff makes of a text, if it applies to it
+-- the text after a diff is applied to a text, if it applies
 abbrev pub applied : List DiffLine → List ℕ → Option (List ℕ)
 applied diff text = option_map concat (applied_to diff (lines_of text))
 
@@ -33,7 +33,7 @@ reversed_line (Added line) = Removed line
 abbrev pub reversed : List DiffLine → List DiffLine
 reversed diff = map reversed_line diff
 
--- what a diff makes of the first of some lines, if it applies to them, and the lines after these
+-- the lines after a diff is applied to the first of these lines, if it applies, and the lines after those
 abbrev pub applied_first : List DiffLine → List (List ℕ) → Option (List (List ℕ) × List (List ℕ))
 applied_first [] lines = Some ([], lines)
 applied_first (Common line ∷ diff) lines =

@@ -9,7 +9,7 @@ use Rattle.nix_format.specs.declared.diff.Line.{Line}
 abbrev pub line_feed : ℕ
 line_feed = 10
 
--- the lines of a text that begins with a byte, by the lines of the text after it
+-- the lines of a text that begins with a byte, given the lines of the text after it
 abbrev pub lines_with : ℕ → List (List ℕ) → List (List ℕ)
 lines_with b [] = (b ∷ []) ∷ []
 lines_with b (line ∷ lines) = if b == line_feed then (b ∷ []) ∷ line ∷ lines else (b ∷ line) ∷ lines
@@ -19,13 +19,13 @@ abbrev pub lines_of : List ℕ → List (List ℕ)
 lines_of [] = []
 lines_of (b ∷ bs) = lines_with b (lines_of bs)
 
--- the line of the old text that a line of a diff is, if it is one
+-- the line of the old text in a line of a diff, if there is one
 abbrev pub old_line : DiffLine → List (List ℕ)
 old_line (Common line) = line.now ∷ []
 old_line (Removed line) = line.now ∷ []
 old_line (Added line) = []
 
--- the line of the new text that a line of a diff is, if it is one
+-- the line of the new text in a line of a diff, if there is one
 abbrev pub new_line : DiffLine → List (List ℕ)
 new_line (Common line) = line.now ∷ []
 new_line (Removed line) = []
@@ -48,6 +48,6 @@ pub record IsDiff (old new : List ℕ) (diff : List DiffLine) : Type 0 where
 abbrev pub texts_of : List Line → List (List ℕ)
 texts_of lines = map (λ line. line.text.now) lines
 
--- a diff gains the first `count` of some lines of the new text
+-- the first `count` of these lines of the new text are added to a diff
 abbrev pub AddsLines : List DiffLine → List DiffLine → List Line → ℕ → Type 0
 AddsLines old new lines count = new_lines new ++ texts_of (drop count lines) ≡ new_lines old ++ texts_of lines

@@ -1,4 +1,4 @@
--- The hunks of a diff: runs of its lines, with all that is no common line.
+-- The hunks of a diff: runs of its lines, which contain all lines that are not common.
 use Rattle.std.specs.Prelude.{◌≡◌, ◌<◌, ◌≤◌, ◌+◌, ◌-◌, ℕ, Bool, true, false, List, [], ◌∷◌, ◌++◌, length, take, drop, count_by, Option, Some, None, option_map, option_and_then}
 use Rattle.std.specs.List.{list_all}
 use Rattle.nix_format.specs.declared.diff.DiffLine.{DiffLine}
@@ -6,7 +6,7 @@ use Rattle.nix_format.specs.declared.diff.DiffLine.TheVariants.{Common, Removed,
 use Rattle.nix_format.specs.declared.unified.{Counts.Counts, Hunk.Hunk}
 use Rattle.nix_format.specs.Applied.{applied_first}
 
--- whether a line of a diff is one of both texts, of the old one, and of the new one
+-- whether a line of a diff belongs to both texts; to the old one; to the new one
 abbrev pub is_common : DiffLine → Bool
 is_common (Common line) = true
 is_common (Removed line) = false
@@ -22,20 +22,20 @@ is_new (Common line) = true
 is_new (Removed line) = false
 is_new (Added line) = true
 
--- lines of a diff that are all common
+-- all of these lines of a diff are common
 abbrev pub AreCommon : List DiffLine → Type 0
 AreCommon lines = list_all is_common lines ≡ true
 
--- the lines of a diff from a number up to another one
+-- the lines of a diff from one index up to another
 abbrev pub lines_between : ℕ → ℕ → List DiffLine → List DiffLine
 lines_between first end diff = take (end - first) (drop first diff)
 
--- how many lines of each text are among lines of a diff
+-- the counts are the numbers of old lines and of new lines among lines of a diff
 pub record AreCounts (lines : List DiffLine) (counts : Counts) : Type 0 where
   pub olds : counts.olds ≡ count_by is_old lines
   pub news : counts.news ≡ count_by is_new lines
 
--- the first hunk after the line of a number: before it all lines are common, and it knows how many lines of each text are before it and in it
+-- the first hunk from an index on: all lines before it are common, and it records how many lines of each text precede it and are in it
 pub record IsNextHunk (diff : List DiffLine) (index : ℕ) (hunk : Hunk) : Type 0 where
   pub starts : index ≤ hunk.first
   pub filled : hunk.first < hunk.end
@@ -44,7 +44,7 @@ pub record IsNextHunk (diff : List DiffLine) (index : ℕ) (hunk : Hunk) : Type 
   pub before : AreCounts (take hunk.first diff) hunk.before
   pub counts : AreCounts (lines_between hunk.first hunk.end diff) hunk.counts
 
--- the hunks of a diff from the line of a number on, in order: all lines outside of them are common
+-- the hunks of a diff from an index on, in order: all lines outside them are common
 abbrev pub AreHunks : List DiffLine → ℕ → List Hunk → Type 0
 AreHunks diff index [] = AreCommon (drop index diff)
 AreHunks diff index (hunk ∷ hunks) = IsNextHunk diff index hunk × AreHunks diff hunk.end hunks
@@ -53,8 +53,8 @@ AreHunks diff index (hunk ∷ hunks) = IsNextHunk diff index hunk × AreHunks di
 abbrev pub hunk_lines : List DiffLine → Hunk → List DiffLine
 hunk_lines diff hunk = lines_between hunk.first hunk.end diff
 
--- what hunks make of the lines of a text after the first `done` ones, if they apply to them: up to the line that the header of a hunk names all lines stay,
--- the hunk is applied to the next ones, and the further hunks to the rest
+-- the lines after hunks are applied to those after the first `done` lines of a text, if they apply: the lines up to the one that a header names stay,
+-- the hunk is applied to the next lines, and the other hunks to the rest
 abbrev pub patched_from : List DiffLine → List Hunk → ℕ → List (List ℕ) → Option (List (List ℕ))
 patched_from diff [] done lines = Some lines
 patched_from diff (hunk ∷ hunks) done lines =

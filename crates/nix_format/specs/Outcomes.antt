@@ -1,4 +1,4 @@
--- What becomes of files: what is printed of each, its outcome, the counts over all files, and the exit status. A text is the list of its bytes.
+-- The results for files: what is printed for each, its outcome, the counts over all files, and the exit status. A text is the list of its bytes.
 use Rattle.std.specs.Prelude.{◌≡◌, ℕ, ◌+◌, ◌-◌, ◌^◌, ◌==◌, nat_lt, min, length, Bool, true, false, List, [], ◌∷◌, ◌++◌, codes, Option, if◌then◌else◌}
 use Rattle.std.specs.{Str.bytes_eq, Io.KnownBytes.{Appends, Keeps}}
 use Rattle.nix_cli.specs.MessageLocations.{display_name}
@@ -10,11 +10,11 @@ use Rattle.nix_format.specs.declared.file.Outcome.TheVariants.{Changed, Same, Fa
 use Rattle.nix_format.specs.declared.report.Tally.{Tally}
 use Rattle.nix_format.specs.Unified.{IsUnified}
 
--- whether a name is that of standard input
+-- whether a name means standard input
 abbrev pub is_input : List ℕ → Bool
 is_input name = bytes_eq name (codes "-")
 
--- bytes of which a statement holds are appended
+-- bytes that satisfy a statement are appended
 abbrev pub Prints : (List ℕ → Type 0) → Option (List ℕ) → Option (List ℕ) → Type 0
 Prints Holds old new = (bytes : List ℕ) × Holds bytes × Appends old new bytes
 
@@ -22,7 +22,7 @@ Prints Holds old new = (bytes : List ℕ) × Holds bytes × Appends old new byte
 abbrev pub changed_name : Bool → List ℕ → List ℕ
 changed_name is_same name = if is_same then [] else display_name name ++ codes "\n"
 
--- a diff of texts that differ
+-- the diff of two texts, which is empty if they are equal
 abbrev pub IsDiffOf : Bool → List ℕ → List ℕ → List ℕ → Type 0
 IsDiffOf true text made bytes = bytes ≡ []
 IsDiffOf false text made bytes = IsUnified text made bytes
@@ -31,33 +31,33 @@ IsDiffOf false text made bytes = IsUnified text made bytes
 abbrev pub input_text : List ℕ → List ℕ → List ℕ
 input_text name made = if is_input name then made else []
 
--- what is printed of a text and its formatted text, by task
+-- what is printed for a text and its formatted text, depending on the task
 abbrev pub IsPrinted : Task → Bool → List ℕ → List ℕ → List ℕ → List ℕ → Type 0
 IsPrinted Check is_same name text made bytes = bytes ≡ changed_name is_same name
 IsPrinted Diff is_same name text made bytes = IsDiffOf is_same text made bytes
 IsPrinted Write is_same name text made bytes = bytes ≡ input_text name made
 IsPrinted Print is_same name text made bytes = bytes ≡ made
 
--- whether formatted texts are to be written to the files
+-- whether formatted texts are written to the files
 abbrev pub writes : Task → Bool
 writes Write = true
 writes Check = false
 writes Diff = false
 writes Print = false
 
--- the outcome for a file that is replaced: this fails or not, and nothing fails for standard input
+-- the outcome after replacing a file, which may fail; for standard input, nothing fails
 pub data IsReplaced (name : List ℕ) : Outcome → Type 0 where
   replaced : IsReplaced name Changed
   failed : is_input name ≡ false → IsReplaced name Failed
 
 -- the outcome for a formatted text
 pub data IsFinished (task : Task) (name text made : List ℕ) (old new : Option (List ℕ)) : Outcome → Type 0 where
-  -- it is the text
+  -- it equals the text
   same : bytes_eq made text ≡ true → Prints (IsPrinted task true name text made) old new → IsFinished task name text made old new Same
-  -- it differs, and nothing is to be written
+  -- it differs, and nothing is written to the file
   changed : bytes_eq made text ≡ false → writes task ≡ false → Prints (IsPrinted task false name text made) old new →
       IsFinished task name text made old new Changed
-  -- it differs, and is to be written
+  -- it differs, and is written to the file
   written : (outcome : Outcome) → bytes_eq made text ≡ false → writes task ≡ true → IsReplaced name outcome →
       Prints (IsPrinted task false name text made) old new → IsFinished task name text made old new outcome
 
@@ -88,11 +88,11 @@ counted Changed tally = record { changed = plus tally.changed 1; same = tally.sa
 counted Same tally = record { changed = tally.changed; same = plus tally.same 1; failed = tally.failed }
 counted Failed tally = record { changed = tally.changed; same = tally.same; failed = plus tally.failed 1 }
 
--- the line in front of a text, if it has one
+-- the line before a text, if it has a heading
 abbrev pub heading : Bool → List ℕ → List ℕ
 heading has_headings name = if has_headings then codes "# " ++ display_name name ++ codes ":\n" else []
 
--- files are formatted one after the other. Before the first one only the folders count that could not be read
+-- files are formatted one after another. Before the first one, only the folders that could not be read are counted
 pub data AreFormatted (task : Task) (has_headings : Bool) (failed : ℕ) (old : Option (List ℕ)) : List (List ℕ) → Option (List ℕ) → Tally → Type 0 where
   none_formatted : AreFormatted task has_headings failed old [] old record { changed = 0; same = 0; failed = failed }
   one_formatted : (files : List (List ℕ)) (mid begun new : Option (List ℕ)) (tally : Tally) (outcome : Outcome) (file : List ℕ) →
@@ -103,7 +103,7 @@ pub data AreFormatted (task : Task) (has_headings : Bool) (failed : ℕ) (old : 
 abbrev pub found_status : Tally → ℕ
 found_status tally = if tally.changed == 0 then 0 else 1
 
--- the exit status without failures, by task
+-- the exit status without failures, depending on the task
 abbrev pub status_without : Task → Tally → ℕ
 status_without Check tally = found_status tally
 status_without Diff tally = found_status tally
@@ -114,7 +114,7 @@ status_without Print tally = 0
 abbrev pub status_of : Task → Tally → ℕ
 status_of task tally = if tally.failed == 0 then status_without task tally else 2
 
--- whether texts have headings: several texts are printed
+-- whether texts have headings: whether several texts are printed
 abbrev pub has_headings : Task → List (List ℕ) → Bool
 has_headings Check files = false
 has_headings Diff files = false

@@ -11,7 +11,7 @@ use Rattle.nix_format.specs.Hunks.{AreHunks, hunk_lines, patched_from}
 abbrev pub no_line_feed : List ℕ
 no_line_feed = codes "\n\\ No newline at end of file\n"
 
--- a line with its end
+-- a line, followed by this if it does not end with a line feed
 abbrev pub with_end : List ℕ → List ℕ
 with_end line = if slice_index line (length line - 1) == line_feed then line else line ++ no_line_feed
 
@@ -21,8 +21,8 @@ line_text (Common line) = byte " " ∷ with_end line.now
 line_text (Removed line) = byte "-" ∷ with_end line.now
 line_text (Added line) = byte "+" ∷ with_end line.now
 
--- lines of one text, by how many precede them: the number of the first one, and how many there are unless it is one; if there is none, the number of the
--- line before
+-- a range of lines in a text, given the number of lines before it: the number of its first line, and its length unless that is one; if it is empty, the number
+-- of the line before it
 abbrev pub range_text : ℕ → ℕ → List ℕ
 range_text before count =
     if count == 0 then decimal before ++ codes ",0"
@@ -38,8 +38,8 @@ header_text hunk =
 abbrev pub hunk_text : List DiffLine → Hunk → List ℕ
 hunk_text diff hunk = header_text hunk ++ flat_map line_text (hunk_lines diff hunk)
 
--- a text has the hunks of a diff of two texts, after their names; applied where their headers say, these turn the lines of the old text into those of the new
--- one
+-- a text contains the hunks of a diff of two texts, after their names; applied where their headers say, they turn the lines of the old text into those of the
+-- new one
 pub record IsUnified (old new text : List ℕ) : Type 0 where
   pub diff : List DiffLine
   pub is_diff : IsDiff old new diff

@@ -1,4 +1,4 @@
--- What the result of formatting a text says of the text.
+-- What the result of formatting a text says about the text.
 use Rattle.std.proofs.Common.{◌≡◌, ℕ, List, [], ◌∷◌, length, refl, inl, inr, subst, arith}
 use Rattle.rnix_kinds.specs.Lexical.Tokens.{tokens_of}
 use Rattle.rnix_green.specs.Tree.{Tree}
@@ -10,7 +10,7 @@ use Rattle.nix_formatting.specs.declared.formatting.Formatting.{Formatting}
 use Rattle.nix_formatting.specs.declared.formatting.Formatting.TheVariants as formatting
 use Rattle.nix_formatting.specs.Formatted.{IsWithoutErrors, IsWithErrors, IsOutcome}
 
--- no text is read both with errors and without
+-- a text cannot both have errors and have none
 not_both : (text : List ℕ) → IsWithErrors text → IsWithoutErrors text → ⊥
 not_both text faulty faultless =
     faulty.some (one_reading (tokens_of text) faulty.tree faultless.0 faulty.faults [] faulty.read faultless.1).1
@@ -26,11 +26,11 @@ has_errors_exactly text formatting.Refused right faulty = absurd (not_both text 
 pub faultless : (text : List ℕ) (tree : Tree) (faults : List Fault) → IsParsed (tokens_of text) tree faults → faults ≡ [] → IsWithoutErrors text
 faultless text tree faults parsed none = (tree, subst (IsReading (tokens_of text) tree) none parsed.reading)
 
--- only white space differs
+-- a text in which only white space changed is reformatted
 pub only_space_changed : (old new : List ℕ) → IsSpaceChange old new → IsReformatted old new
 only_space_changed old new h = inl h
 
--- both texts are parsed without errors, and walks over their trees have the same steps
+-- a text is reformatted if both texts are parsed without errors and walks over their trees have the same steps
 pub reindented : (old new : List ℕ) (before after : Tree) (ds es : List Fault) → IsParsed (tokens_of old) before ds → ds ≡ []
     → IsParsed (tokens_of new) after es → es ≡ [] → steps_in after ≡ steps_in before → IsReformatted old new
 reindented old new before after ds es old_parsed old_none new_parsed new_none steps = inr record {
@@ -43,7 +43,7 @@ reindented old new before after ds es old_parsed old_none new_parsed new_none st
   nix_values = nix_values_same before after steps;
 }
 
--- a list of no elements
+-- a list of length 0 is empty
 pub nil_from_length : {A : Type 0} (xs : List A) → length xs ≡ 0 → xs ≡ []
 nil_from_length [] e = refl
 nil_from_length (x ∷ xs) e = absurd (omega (arith, e))

@@ -1,4 +1,4 @@
--- Trees over which walks have the same steps have the same outline, and strings of the same values.
+-- Trees whose walks have the same steps have the same outline, and their strings have the same values.
 use Rattle.std.proofs.Common.{◌≡◌, ℕ, ◌+◌, ◌-◌, Bool, true, false, List, [], ◌∷◌, ◌++◌, length, map, take, drop, Option, Some, None, refl, ap, sym, ◌∙◌}
 use Rattle.std.proofs.{Common.{arith, append_assoc}, lemmas.List.{append-nil, map-append, take_at, drop_at, drop-drop}}
 use Rattle.std.specs.Prelude.{◌&&◌, ◌||◌, not, if◌then◌else◌}
@@ -13,7 +13,7 @@ use Rattle.rnix_parser.specs.Significant.{leaf_unless}
 use Rattle.nix_formatting.specs.{Outline.{text_unless, outline}, WalkSteps.{Step, Shown, shown_node, shown_token, step_if, steps_of, steps_in}}
 use Rattle.nix_formatting.specs.Values.{both_values, value_if, values_in, string_values, nix_string_values}
 
--- a step in front of forests: those of the open nodes, innermost first, each from the walk's place to the forest's end
+-- a step before forests: those of the open nodes, innermost first, each from the walk's position to the end of the node
 abbrev built : Bool → Bool → SyntaxKind → Shown → List Forest → List Forest
 built false enters k t [] = []
 built false enters k t (f ∷ fs) = leaf k t.0 f ∷ fs
@@ -22,7 +22,7 @@ built true true k t [] = []
 built true true k t (c ∷ []) = []
 built true true k t (c ∷ (f ∷ fs)) = node k c f ∷ fs
 
--- the forests that steps make, read from the last one on
+-- the forests that steps build, from the last step to the first
 abbrev rebuilt : List Step → List Forest
 rebuilt [] = empty ∷ []
 rebuilt (s ∷ ss) = built s.is_node s.enters s.kind s.shown (rebuilt ss)
@@ -33,7 +33,7 @@ located t n = record { tree = t; number = n }
 abbrev step_with : Bool → Bool → SyntaxKind → Shown → Step
 step_with enters is_node kind shown = record { enters = enters; is_node = is_node; kind = kind; shown = shown }
 
--- the steps of an event in front of others, by the event's element
+-- the step of an event, given by the event's element, before other steps
 abbrev before : Bool → (Item → Shown) → Item → List Step → List Step
 before enters shown i steps =
     step_if (i.is_node || (enters && not (same_kind i.kind TOKEN_WHITESPACE))) (step_with enters i.is_node i.kind (shown i)) steps
@@ -45,21 +45,21 @@ abbrev item_with : Bool → SyntaxKind → ℕ → ℕ → Option ℕ → ℕ �
 item_with is_node k s m p b = record { kind = k; is_node = is_node; start = s; end = m; parent = p; below = b }
 
 module _ (t : Tree) (n : ℕ) (k : SyntaxKind) (s m : ℕ) (p : Option ℕ) (b : ℕ) (remaining : List Event) where
-  -- a node is entered
+  -- the steps when a node is entered
   entered : item t n ≡ item_with true k s m p b
       → rebuilt (steps_of (event_at t (true, n) ∷ remaining)) ≡ built true true k (shown_node true (located t n)) (rebuilt (steps_of remaining))
   entered e = ap (λ i. rebuilt (before true (shown_in t n true) i (steps_of remaining))) e
 
-  -- a node is left
+  -- the steps when a node is left
   remaining_after : item t n ≡ item_with true k s m p b → rebuilt (steps_of (event_at t (false, n) ∷ remaining)) ≡ empty ∷ rebuilt (steps_of remaining)
   remaining_after e = ap (λ i. rebuilt (before false (shown_in t n false) i (steps_of remaining))) e
 
-  -- a token is passed
+  -- the steps when a token is passed
   token_passed : item t n ≡ item_with false k s m p b → steps_of (event_at t (true, n) ∷ (event_at t (false, n) ∷ remaining))
       ≡ step_if (not (same_kind k TOKEN_WHITESPACE)) (step_with true false k (shown_token (located t n))) (steps_of remaining)
   token_passed e = ap (λ i. before true (shown_in t n true) i (before false (shown_in t n false) i (steps_of remaining))) e
 
-  -- what a token shows, by its text
+  -- what a token shows, given its text
   token_shows : (u whole : List ℕ) → whole ≡ text_of (forest_of t) → item t n ≡ item_with false k s m p b → take (m - s) (drop s whole) ≡ u
       → shown_token (located t n) ≡ (text_unless (same_kind k TOKEN_STRING_CONTENT) u, [])
   token_shows u whole is e h =
@@ -73,13 +73,13 @@ join_empty empty = refl
 join_empty (leaf k t f) = ap (leaf k t) (join_empty f)
 join_empty (node k c f) = ap (node k c) (join_empty f)
 
--- a token in front of a forest
+-- a token before a forest
 token_row : (is_space : Bool) (k : SyntaxKind) (u : List ℕ) (ss : List Step) (f g : Forest) (fs : List Forest) → rebuilt ss ≡ join f g ∷ fs
     → rebuilt (step_if (not is_space) (step_with true false k (u, [])) ss) ≡ join (leaf_unless is_space k u f) g ∷ fs
 token_row true k u ss f g fs h = h
 token_row false k u ss f g fs h = ap (built false true k (u, [])) h
 
--- the text of a leaf, and what follows it
+-- the text of a leaf, and the text that follows it
 module _ (whole u behind : List ℕ) (s : ℕ) (at : drop s whole ≡ u ++ behind) where
   leaf_text : take (s + length u - s) (drop s whole) ≡ u
   leaf_text =
@@ -89,7 +89,7 @@ module _ (whole u behind : List ℕ) (s : ℕ) (at : drop s whole ≡ u ++ behin
   text_after : drop (s + length u) whole ≡ behind
   text_after = sym (drop-drop (length u) s whole) ∙ ap (drop (length u)) at ∙ drop_at u behind (length u) refl
 
--- the steps of a walk over a forest rebuild its outline in front of the rest of its forest
+-- the steps of a walk over a forest build its outline before the rest of the enclosing forest
 rebuilds : (t : Tree) (n s : ℕ) (p : Option ℕ) (f : Forest) (more : List Event) (rest : List ℕ) (g : Forest) (fs : List Forest)
     → HasItemsAt t n (items_from n s p f) → drop s (text_of (forest_of t)) ≡ text_of f ++ rest → rebuilt (steps_of more) ≡ g ∷ fs
     → rebuilt (steps_of (map (event_at t) (steps_from n f) ++ more)) ≡ join (outline f) g ∷ fs
@@ -135,7 +135,7 @@ rebuilds t n s p (node k c f) more rest g fs here text h =
     ∙ ap (built true true k (shown_node true (located t n))) inside
     ∙ ap (λ x. node k x (join (outline f) g) ∷ fs) (join_empty (outline c))
 
--- the outline of a tree from the steps of its walk
+-- the steps of a walk over a tree build the tree's outline
 rebuilt_tree : (t : Tree) → rebuilt (steps_in t) ≡ outline (forest_of t) ∷ []
 rebuilt_tree t =
     ap (λ x. rebuilt (steps_of x)) (sym (append-nil (map (event_at t) (steps_from 0 (forest_of t)))))
@@ -147,11 +147,11 @@ rebuilt_tree t =
 first_same : {A : Type 0} {x y : A} → x ∷ [] ≡ y ∷ [] → x ≡ y
 first_same e = cc
 
--- walks with the same steps are over trees with the same outline
+-- trees whose walks have the same steps have the same outline
 pub outlines_same : (old new : Tree) → steps_in new ≡ steps_in old → outline (forest_of new) ≡ outline (forest_of old)
 outlines_same old new same = first_same (sym (rebuilt_tree new) ∙ ap rebuilt same ∙ rebuilt_tree old)
 
--- the values of the strings that steps enter, where this is the value among what is shown
+-- the values of the strings that steps enter, where `value` selects the value from what a step shows
 abbrev values_shown : (Shown → List ℕ) → List Step → List (List ℕ)
 values_shown value [] = []
 values_shown value (s ∷ ss) = value_if (s.enters && (s.is_node && same_kind NODE_STRING s.kind)) (value s.shown) (values_shown value ss)
@@ -180,7 +180,7 @@ values_are value ((true, (false, e)) ∷ events) =
     token_no_value value (same_kind (item_of e).kind TOKEN_WHITESPACE) (item_of e).kind (shown_token e) (steps_of events) ∙ values_are value events
 values_are value ((false, (false, e)) ∷ events) = values_are value events
 
--- walks with the same steps are over trees whose strings have the same values
+-- trees whose walks have the same steps have strings with the same values
 shown_same : (value : Shown → List ℕ) (old new : Tree) → steps_in new ≡ steps_in old
     → values_in (λ e. value (both_values e)) (preorder_of (located new 0))
     ≡ values_in (λ e. value (both_values e)) (preorder_of (located old 0))
@@ -190,6 +190,6 @@ shown_same value old new same =
 pub values_same : (old new : Tree) → steps_in new ≡ steps_in old → string_values new ≡ string_values old
 values_same old new same = shown_same (λ s. s.0) old new same
 
--- and the same values as Nix makes them
+-- and with the same values in Nix
 pub nix_values_same : (old new : Tree) → steps_in new ≡ steps_in old → nix_string_values new ≡ nix_string_values old
 nix_values_same old new same = shown_same (λ s. s.1) old new same

@@ -1,4 +1,4 @@
--- Texts with the same tokens other than white space have alike items.
+-- Texts with the same tokens other than white space have matching items.
 use Rattle.std.proofs.Common.{◌≡◌, ℕ, ◌+◌, ◌<◌, ◌≤◌, Bool, true, false, List, [], ◌∷◌, length, map, Option, Some, None, refl, ap, sym, subst, ◌∙◌, arith}
 use Rattle.std.proofs.lemmas.List.Elements.{All-head, All-tail}
 use Rattle.std.proofs.lemmas.Bool.{false≢true, not-true, Decides.nat_tests}
@@ -20,14 +20,14 @@ use Rattle.rnix_parser.specs.ReadAlike.{items_of, AreReadAlike}
 use Rattle.rnix_parser.specs.Significant.{significant}
 use Rattle.nix_formatting.specs.SpaceChange.{VisibleToken, visible_if, visible_tokens_from, visible_tokens_of, IsSpaceChange}
 
--- equal lists have equal first elements, and equal rests
+-- equal lists have equal first elements, and equal tails
 first_same : {A : Type 0} {x y : A} {xs ys : List A} → x ∷ xs ≡ y ∷ ys → x ≡ y
 first_same e = cc
 
 rest_same : {A : Type 0} {x y : A} {xs ys : List A} → x ∷ xs ≡ y ∷ ys → xs ≡ ys
 rest_same e = cc
 
--- a token other than white space at its place
+-- a token other than white space with its offset and flag
 record PlacedToken : Type 0 where
   token : Token
   joins : Bool
@@ -42,7 +42,7 @@ placed_token_if false s spaced touching = s ∷ touching
 abbrev token_at : ℕ → Lexeme → Token
 token_at n l = record { kind = l.0; text = l.1; start = n; end = n + length l.1 }
 
--- the tokens other than white space at their places
+-- the tokens other than white space, each with its offset
 abbrev placed_tokens_from : ℕ → Bool → List Lexeme → List PlacedToken
 placed_tokens_from n in_path [] = []
 placed_tokens_from n in_path (l ∷ ls) =
@@ -61,7 +61,7 @@ visible_tokens_at n in_path (l ∷ ls) =
       | false ↦ ap (λ x. visible_at s ∷ x) (visible_tokens_at m (ends_piece l.0) ls)
     ]
 
--- the items among them
+-- the items among these tokens
 abbrev items_in : List PlacedToken → List Token
 items_in [] = []
 items_in (s ∷ ss) = item_if (is_trivia s.token.kind) s.token (items_in ss)
@@ -84,7 +84,7 @@ items_at n in_path (l ∷ ls) =
     (placed_tokens_from m false ls) (placed_tokens_from m (ends_piece l.0) ls) (items (placed_from m ls)) (space_is_trivia l.0)
     (items_at m false ls) (items_at m (ends_piece l.0) ls)
 
--- the kind and the end of the last item, after one more token
+-- the kind of the last item, after one more token
 abbrev kind_after : Bool → Option SyntaxKind → SyntaxKind → Option SyntaxKind
 kind_after true prev k = prev
 kind_after false prev k = Some k
@@ -93,24 +93,24 @@ abbrev end_after : Bool → ℕ → ℕ → ℕ
 end_after true p end = p
 end_after false p end = end
 
--- the flags of tokens are right, given the kind and the end of the item before them
+-- the flags of the tokens are right, given the kind and the end of the item before them
 abbrev AreTrue : Option SyntaxKind → ℕ → List PlacedToken → Type 0
 AreTrue prev p [] = Unit {0}
 AreTrue prev p (s ∷ ss) =
     (s.joins ≡ (is_in_path prev && nat_eq s.token.start p) && is_piece_start s.token.kind)
     × AreTrue (kind_after (is_trivia s.token.kind) prev s.token.kind) (end_after (is_trivia s.token.kind) p s.token.end) ss
 
--- nothing that begins further right touches
+-- a token that begins after the end of an item does not touch it
 apart : (b : Bool) (p n : ℕ) → p < n → false ≡ b && nat_eq n p
 apart true p n less = grind (arith, less)
 apart false p n less = refl
 
--- what begins where an item ends touches it
+-- a token that begins at the end of an item touches it
 touching : (b : Bool) (n : ℕ) → b ≡ b && nat_eq n n
 touching true n = grind arith
 touching false n = refl
 
--- a comment is no part of a path
+-- a comment is not a part of a path
 comment_ends : (k : SyntaxKind) → is_trivia k ≡ true → ends_piece k ≡ false
 comment_ends k is = not-true (ends_piece k) (implied is_trivia (λ k. not (ends_piece k)) refl k is)
 
@@ -137,7 +137,7 @@ all_true prev p n in_path (l ∷ ls) is order some =
       )
     ]
 
--- if a path may continue, two items with the same flag touch the item before in both texts or in neither
+-- if a path may continue, two items with the same flag touch the previous item in both texts or in neither
 same_touch : (a c b d : Bool) → ((a && b) && c) ≡ ((a && d) && c) → a && c ≡ true → b ≡ d
 same_touch true true true true e m = refl
 same_touch true true true false e m = e
@@ -146,7 +146,7 @@ same_touch true true false false e m = refl
 same_touch true false b d e m = absurd (false≢true m)
 same_touch false c b d e m = absurd (false≢true m)
 
--- the first of some tokens are alike, and so are the rest
+-- the first of some tokens match, and so do the others
 alike_step : (b c : Bool) → b ≡ c → (prev : Option SyntaxKind) (p q : ℕ) (x y : PlacedToken) (xs ys : List PlacedToken)
     → x.token.kind ≡ y.token.kind → x.token.text ≡ y.token.text
     → (may_join prev x.token.kind ≡ true → nat_eq x.token.start p ≡ nat_eq y.token.start q)
@@ -164,7 +164,7 @@ alike_step false false same prev p q x y xs ys kinds texts joins rest hx hy = (
   rest (Some x.token.kind) x.token.end y.token.end hx (subst (λ k. AreTrue (Some k) y.token.end ys) (sym kinds) hy),
 )
 
--- the same tokens at other places have alike items
+-- equal tokens at other offsets have matching items
 same_placed_tokens : (prev : Option SyntaxKind) (p q : ℕ) (xs ys : List PlacedToken) → map visible_at xs ≡ map visible_at ys
     → AreTrue prev p xs → AreTrue prev q ys → AreAlike prev p q (items_in xs) (items_in ys)
 same_placed_tokens prev p q [] [] e hx hy = tt
@@ -181,7 +181,7 @@ same_placed_tokens prev p q (x ∷ xs) (y ∷ ys) e hx hy =
     (λ m. same_touch a (is_piece_start x.token.kind) (nat_eq x.token.start p) d joined m)
     (λ other n m. same_placed_tokens other n m xs ys (rest_same e)) hx.1 hy.1
 
--- texts with the same tokens other than white space have alike items
+-- texts with the same tokens other than white space have matching items
 pub alike_items : (x y : List ℕ) → AreSound x (tokens_of x) → AreSound y (tokens_of y) → visible_tokens_of y ≡ visible_tokens_of x
     → AreAlike None 0 0 (items_of x) (items_of y)
 alike_items x y xsound ysound same =
@@ -194,12 +194,12 @@ alike_items x y xsound ysound same =
     subst (λ z. AreAlike None 0 0 z (items_of y)) (items_at 0 false (tokens_of x))
     (subst (AreAlike None 0 0 (items_in xs)) (items_at 0 false (tokens_of y)) alike)
 
--- no errors are the same as no errors
+-- only an empty list of errors corresponds to an empty list of errors
 no_faults : (xs ys : List Token) (es : List Fault) → AreSameFaults xs ys [] es → es ≡ []
 no_faults xs ys [] same = refl
 no_faults xs ys (e ∷ es) same = absurd same
 
--- texts with the same tokens other than white space, of which the first has no errors, are read as one tree
+-- if a text without errors changes only in white space, it is parsed as the same tree without white space
 pub space_changed : (old new : List ℕ) (tree made : Tree) (faults : List Fault) → AreSound old (tokens_of old) → AreSound new (tokens_of new)
     → AreReadAlike old new → IsReading (tokens_of old) tree [] → IsReading (tokens_of new) made faults → visible_tokens_of new ≡ visible_tokens_of old
     → IsSpaceChange old new

@@ -1,4 +1,4 @@
--- Tokens that were compared.
+-- Comparing the tokens of two texts.
 use Rattle.std.proofs.Common.{◌≡◌, ℕ, Bool, true, false, List, [], ◌∷◌, Option, Some, None, refl, ap, sym, subst, ◌∙◌}
 use Rattle.std.proofs.lemmas.{Bool.{false≢true, and_parts}, Slice.Eq.bytes_eq-Decides}
 use Rattle.std.specs.{Prelude.{not, ◌&&◌}, Str.bytes_eq}
@@ -32,7 +32,7 @@ visible_tokens_same old new h =
     sym (ap (λ k. visible_with k old.text.now old.joins) kinds
     ∙ ap (λ t. visible_with new.kind t old.joins) texts ∙ ap (visible_with new.kind new.text.now) flags)
 
--- both texts have the same next token, and the same tokens after it
+-- if both texts have the same next token and the same tokens after it, they have the same tokens
 both_step : (in_path : Bool) (olds news olds_remaining news_remaining : List Lexeme) (old new : Taken) (kind : SyntaxKind)
     → visible_tokens_from in_path olds ≡ visible_of old ∷ visible_tokens_from (ends_piece old.kind) olds_remaining
     → visible_tokens_from in_path news ≡ visible_of new ∷ visible_tokens_from (ends_piece new.kind) news_remaining
@@ -48,7 +48,7 @@ both_step in_path olds news olds_remaining news_remaining old new kind is_old is
     ∙ ap (λ k. visible_of old ∷ visible_tokens_from (ends_piece k) olds_remaining) is_kind
     ∙ sym is_old
 
--- the contract of a step
+-- a step keeps its contract
 pub stepped : (in_path : Bool) (olds news olds_remaining news_remaining : List Lexeme) (old new : Option Taken) (s : Step)
     → IsNextVisible in_path olds old olds_remaining → IsNextVisible in_path news new news_remaining → AreCompared s old new
     → IsStep in_path olds news olds_remaining news_remaining s
@@ -67,7 +67,7 @@ stepped in_path olds news olds_remaining news_remaining (Some old) (Some new) st
 pub same_text : (old new : List ℕ) → old ≡ new → visible_tokens_of new ≡ visible_tokens_of old
 same_text old new same = ap visible_tokens_of (sym same)
 
--- a step over the same token
+-- a step at which both tokens are the same
 pub same_step : (in_path : Bool) (olds news olds_remaining news_remaining : List Lexeme) (s : Step) (kind : SyntaxKind)
     → IsStep in_path olds news olds_remaining news_remaining s → s ≡ step.Same kind
     → visible_tokens_from (ends_piece kind) news_remaining ≡ visible_tokens_from (ends_piece kind) olds_remaining
@@ -78,7 +78,7 @@ same_step in_path olds news olds_remaining news_remaining s kind h is rest =
     subst (IsStep in_path olds news olds_remaining news_remaining) is h in
     step_on rest
 
--- a step at both ends
+-- a step at the end of both texts
 pub end_step : (in_path : Bool) (olds news olds_remaining news_remaining : List Lexeme) (s : Step)
     → IsStep in_path olds news olds_remaining news_remaining s → s ≡ step.End → visible_tokens_from in_path news ≡ visible_tokens_from in_path olds
 end_step in_path olds news olds_remaining news_remaining s h is = subst (IsStep in_path olds news olds_remaining news_remaining) is h

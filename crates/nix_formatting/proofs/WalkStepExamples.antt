@@ -13,13 +13,13 @@ string_tree space quotes contents = record {
       (node k.NODE_STRING (leaf k.TOKEN_STRING_START quotes (leaf k.TOKEN_STRING_CONTENT contents (leaf k.TOKEN_STRING_END quotes empty))) empty);
 }
 
--- what is shown, one step after another: the root, the string with its values, its tokens, and both nodes again when they are left
+-- what the steps show, one after another: the root, the string with its values, its tokens, and both nodes again when they are left
 indented : map (λ s. s.shown) (steps_in (string_tree (codes " ") (codes "''") (codes "\n  a\n   b\n")))
     ≡ ([], []) ∷ (codes "a\n b\n", codes "a\n b\n") ∷ (codes "''", []) ∷ ([], []) ∷ (codes "''", []) ∷ ([], []) ∷ ([], []) ∷ []
 unfolding values symbols lines least_indentation part_text with_texts closed marked ended
 indented = refl
 
--- lines that move together, and other white space, change no step
+-- moving all lines by the same number of spaces, or changing other white space, changes no step
 moved : steps_in (string_tree (codes "\n") (codes "''") (codes "\n a\n  b\n  ")) ≡ steps_in (string_tree (codes " ") (codes "''") (codes "\n  a\n   b\n"))
 unfolding values symbols lines least_indentation part_text with_texts closed marked ended
 moved = refl
@@ -30,7 +30,7 @@ quoted : map (λ s. s.shown) (steps_in (string_tree [] (codes "\"") (codes "\n  
 unfolding values fed
 quoted = refl
 
--- where spaces follow an escaped line feed, Nix makes another value of a string that moves, although it has the same normalized parts
+-- if spaces follow an escaped line feed, moving a string changes its value in Nix, though not its normalized parts
 escaped : map (λ s. s.shown) (steps_in (string_tree [] (codes "''") (codes "\n   a''\\n  b\n")))
     ≡ ([], []) ∷ (codes "a\n  b\n", codes "a\nb\n") ∷ (codes "''", []) ∷ ([], []) ∷ (codes "''", []) ∷ ([], []) ∷ ([], []) ∷ []
 unfolding values symbols lines least_indentation part_text with_texts closed marked ended

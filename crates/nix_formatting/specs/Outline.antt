@@ -6,12 +6,12 @@ use Rattle.rnix_green.specs.Equality.{same_kind}
 use Rattle.rnix_green.specs.Forest.{Forest, empty, leaf, node}
 use Rattle.rnix_parser.specs.Significant.{leaf_unless}
 
--- a text, or nothing
+-- the empty text if the flag is true, or else the given text
 abbrev pub text_unless : Bool → List ℕ → List ℕ
 text_unless true text = []
 text_unless false text = text
 
--- the trees without white space, and with no text for the contents of strings; comments stay
+-- the trees without white space, and without the text of the contents of strings; comments stay
 abbrev pub outline : Forest → Forest
 outline empty = empty
 outline (leaf k t f) = leaf_unless (same_kind k TOKEN_WHITESPACE) k (text_unless (same_kind k TOKEN_STRING_CONTENT) t) (outline f)

@@ -25,7 +25,7 @@ IsNextStep before (Some met) after = steps_of before ≡ step_of (event_of met) 
 abbrev pub AreSame : Event → Event → Type 0
 AreSame old new = step_of new ≡ step_of old
 
--- whether both show the same
+-- whether two elements show the same
 abbrev pub same_shown : Shown → Shown → Bool
 same_shown old new = bytes_eq old.0 new.0 && bytes_eq old.1 new.1
 

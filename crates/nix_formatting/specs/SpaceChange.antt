@@ -14,19 +14,19 @@ use Rattle.rnix_parser.specs.Significant.{significant}
 abbrev pub VisibleToken : Type 0
 VisibleToken = SyntaxKind × List ℕ × Bool
 
--- a token before others, unless it is white space
+-- the list of visible tokens starting with this token, unless it is white space
 abbrev pub visible_if : Bool → VisibleToken → List VisibleToken → List VisibleToken → List VisibleToken
 visible_if true t spaced touching = spaced
 visible_if false t spaced touching = t ∷ touching
 
--- the tokens other than white space, comments included; the first argument is whether a part of a path precedes them
+-- the tokens other than white space, comments included; `in_path` says whether a part of a path precedes them
 abbrev pub visible_tokens_from : Bool → List Lexeme → List VisibleToken
 visible_tokens_from in_path [] = []
 visible_tokens_from in_path (t ∷ ts) =
     visible_if (same_kind t.0 TOKEN_WHITESPACE) (t.0, t.1, in_path && is_piece_start t.0)
     (visible_tokens_from false ts) (visible_tokens_from (ends_piece t.0) ts)
 
--- the tokens of a text other than white space
+-- the tokens of a text, except white space
 abbrev pub visible_tokens_of : List ℕ → List VisibleToken
 visible_tokens_of text = visible_tokens_from false (tokens_of text)
 

@@ -10,7 +10,7 @@ use Rattle.rnix_base.specs.Parts.{is_indented}
 use Rattle.rnix_base.specs.Normal.{Parts, with_text}
 use Rattle.rnix.specs.StringParts.{string_parts, normalized_parts, value_parts}
 
--- the number that stands for an interpolation among the bytes of a string
+-- the number that represents an interpolation among the bytes of a string
 abbrev pub interpolation_symbol : ℕ
 interpolation_symbol = 256
 
@@ -23,11 +23,11 @@ with_symbols symbols (Interpolation i) = symbols ++ interpolation_symbol ∷ []
 abbrev pub symbols_of : {I : Type 0} → Parts I → List ℕ
 symbols_of = fold with_symbols []
 
--- the parts of a string as written
+-- the parts of a string as they are written
 abbrev pub written_parts : Located → Parts Located
 written_parts string = map (with_text text_at) (string_parts string)
 
--- the value of a string: in `''` the bytes and interpolations of its normalized parts, in `"` those of its parts as written
+-- the value of a string: in `''` the bytes and interpolations of its normalized parts, in `"` those of its parts as they are written
 abbrev pub value_of : Located → List ℕ
 value_of string = if is_indented string then symbols_of (normalized_parts string) else symbols_of (written_parts string)
 
@@ -39,12 +39,12 @@ nix_value_of string = symbols_of (value_parts string)
 abbrev pub both_values : Located → List ℕ × List ℕ
 both_values string = (value_of string, nix_value_of string)
 
--- a value, if there is one, before others
+-- a value followed by others, or these alone if the flag is false
 abbrev pub value_if : Bool → List ℕ → List (List ℕ) → List (List ℕ)
 value_if true value values = value ∷ values
 value_if false value values = values
 
--- the values of the strings that are entered, where this is the value of one
+-- the values of the strings that a walk enters, where `value` is the value of one
 abbrev pub values_in : (Located → List ℕ) → List Event → List (List ℕ)
 values_in value [] = []
 values_in value (event ∷ events) =
@@ -54,6 +54,6 @@ values_in value (event ∷ events) =
 abbrev pub string_values : Tree → List (List ℕ)
 string_values tree = values_in value_of (preorder_of record { tree = tree; number = 0 })
 
--- the values of all strings of a tree as Nix makes them, in preorder
+-- the values of all strings of a tree in Nix, in preorder
 abbrev pub nix_string_values : Tree → List (List ℕ)
 nix_string_values tree = values_in nix_value_of (preorder_of record { tree = tree; number = 0 })

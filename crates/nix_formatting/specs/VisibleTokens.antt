@@ -13,7 +13,7 @@ use Rattle.nix_formatting.specs.declared.alike.Step.TheVariants as step
 abbrev pub visible_of : Taken → VisibleToken
 visible_of taken = (taken.kind, taken.text.now, taken.joins)
 
--- the next token other than white space was returned, if there is one
+-- the result is the next token other than white space, or `None` if there is none
 abbrev pub IsNextVisible : Bool → List Lexeme → Option Taken → List Lexeme → Type 0
 IsNextVisible in_path before None after = visible_tokens_from in_path before ≡ []
 IsNextVisible in_path before (Some taken) after = visible_tokens_from in_path before ≡ visible_of taken ∷ visible_tokens_from (ends_piece taken.kind) after

@@ -8,11 +8,11 @@ use Rattle.rnix_green.specs.Walk.{Event, preorder_of}
 use Rattle.nix_formatting.specs.Outline.{text_unless}
 use Rattle.nix_formatting.specs.Values.{both_values}
 
--- what is shown: a text or a value, and beside it the value as Nix makes it
+-- what a step shows: a text or a value, and the value in Nix
 abbrev pub Shown : Type 0
 Shown = List ℕ × List ℕ
 
--- a node is entered or left, or a token is passed, and something is shown of it
+-- a step: a node is entered or left, or a token is passed, and something of it is shown
 pub record Step : Type 0 where
   pub enters : Bool
   pub is_node : Bool
@@ -40,7 +40,7 @@ step_of event = record { enters = event.0; is_node = event.1.0; kind = (item_of 
 abbrev pub is_step : Event → Bool
 is_step event = event.1.0 || (event.0 && not (same_kind (item_of event.1.1).kind TOKEN_WHITESPACE))
 
--- a step before others, if it is one
+-- a step followed by others, or these alone if the flag is false
 abbrev pub step_if : Bool → Step → List Step → List Step
 step_if true step steps = step ∷ steps
 step_if false step steps = steps

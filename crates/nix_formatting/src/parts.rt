@@ -25,7 +25,7 @@ fn is_same_written<'t>(
     }
 }
 
-/// Returns whether two strings have the same texts and as many interpolations between them, as they are written.
+/// Returns whether two strings, as written, have the same texts and the same number of interpolations between them.
 #[tactic(auto, using(crate::proofs::ValueLemmas::parts_begun, crate::proofs::ValueLemmas::parts_ended))]
 pub fn have_same_written<'t>(old: &Str<'t>, new: &Str<'t>) -> bool
     ensures { result ≡ true → bare_parts (written_parts new.now) ≡ bare_parts (written_parts old.now) }
@@ -54,7 +54,7 @@ fn is_same_normalized(old: &InterpolPart<'_, String>, new: &InterpolPart<'_, Str
     }
 }
 
-/// Returns whether some normalized parts are the same texts, with as many interpolations between them.
+/// Returns whether two lists of normalized parts have the same texts and the same number of interpolations between them.
 pub fn have_same_normalized(
     olds: &[InterpolPart<'_, String>],
     news: &[InterpolPart<'_, String>],

@@ -12,7 +12,7 @@ use rnix::ast::{AstNode, Interpol, InterpolPart, Str};
 use rnix_base::{StrContent, is_indented, text_parts};
 use std::alloc::{AllocError, Global};
 
-// The number that stands for an interpolation.
+// The number that represents an interpolation.
 const INTERPOLATION: u16 = 256;
 
 // Adds the bytes of a text.
@@ -94,7 +94,7 @@ fn value_of(alloc: Global, string: &Str<'_>) -> Result<Vec<u16>, AllocError>
     Ok(symbols)
 }
 
-// Returns the value that normalized parts are.
+// Returns the value of normalized parts.
 fn normalized_value(
     alloc: Global,
     parts: &[InterpolPart<'_, String>],
@@ -141,7 +141,7 @@ fn have_same_nix_value<'t>(alloc: Global, old: &Str<'t>, new: &Str<'t>) -> Resul
     are_same_parts(alloc, &olds, &news)
 }
 
-// Returns whether two strings have the same parts as they are written, and quotes of the same kind.
+// Returns whether two strings have the same parts as written, and quotes of the same kind.
 #[tactic(auto, using(crate::proofs::ValueLemmas::written_same, crate::proofs::ValueLemmas::nix_written_same))]
 fn have_same_source<'t>(old: &Str<'t>, new: &Str<'t>) -> bool
     ensures value { result ≡ true → value_of old.now ≡ value_of new.now }

@@ -106,7 +106,7 @@ fn are_same<'t>(
 // How the next steps of two walks compare.
 #[derive(Clone, Copy)]
 enum Pair {
-    // Both are the same.
+    // Both are equal.
     Same,
     // They differ, or only one walk has a next step.
     Differ,
@@ -149,7 +149,7 @@ fn next_pair(
     compared(alloc, old, new)
 }
 
-/// Returns whether walks over two trees have the same steps: white space aside, and with the values of strings in place of their contents.
+/// Returns whether walks over two trees have the same steps: without white space, and with the values of strings in place of their contents.
 #[tactic(auto, using(crate::proofs::WalkStepLemmas::same_pair, crate::proofs::WalkStepLemmas::end_pair))]
 pub fn have_same_steps(
     alloc: Global,

@@ -21,7 +21,7 @@ struct Collector {
     alloc: Global,
     layout: Layout,
     frames: Vec<Frame>,
-    // The number of elements that were passed.
+    // The number of elements passed so far.
     passed: usize,
     // The number of elements up to the end of the last string, path or name.
     atom_end: usize,
@@ -96,7 +96,7 @@ impl Collector {
         self.first_unset = self.layout.pieces.len();
     }
 
-    // Returns whether the last piece always begins its line.
+    // Returns whether the last piece is always at the start of its line.
     fn begins_line(&self) -> bool {
         match self.layout.pieces.last() {
             Some(piece) => piece.gap.is_hard,
@@ -117,7 +117,7 @@ impl Collector {
         }
     }
 
-    // Stores the spacing between the next child and the one before it.
+    // Records the spacing between the next child and the one before it.
     fn note_child(&mut self, child: Child) {
         let top = self.frames.len().saturating_sub(1);
         if top < self.frames.len() {
@@ -135,7 +135,7 @@ impl Collector {
         }
     }
 
-    // Stores that the last piece is the opening bracket of the innermost node.
+    // Records that the last piece is the opening bracket of the innermost node.
     fn note_bracket(&mut self) {
         let top = self.frames.len().saturating_sub(1);
         if top < self.frames.len() {
@@ -143,7 +143,7 @@ impl Collector {
         }
     }
 
-    // Stores the target of a child as that of the innermost node, if that node may be broken there.
+    // Records the target of a child as that of the innermost node, if that node may be broken there.
     fn offer_target(&mut self, child: SyntaxKind, target: Option<Target>) {
         let Some(target) = target else {
             return;
@@ -159,7 +159,7 @@ impl Collector {
         }
     }
 
-    // Sets the gaps up to the last piece as around the text.
+    // Sets the gaps up to the last piece to those around a text.
     fn finish_first_gaps(&mut self) {
         self.finish_gaps(around_text(), 0);
     }
@@ -181,7 +181,7 @@ impl Collector {
         Ok(())
     }
 
-    // Adds a token or a name: a piece that gets its gap at once, if no comment precedes it.
+    // Adds a token or a name: a piece whose gap is set at once, if no comment precedes it.
     fn add_word(&mut self, range: TextRange, kind: SyntaxKind) -> Result<(), AllocError> {
         let word = Piece::of_word(range.start(), range.end());
         if self.first_unset < self.layout.pieces.len() {
@@ -233,7 +233,7 @@ impl Collector {
         }
     }
 
-    // Returns the number of elements up to the end of a node that is entered.
+    // Returns the number of elements up to the end of the node that the walk enters.
     fn end_of(&self, node: &SyntaxNode<'_>) -> usize {
         self.passed.saturating_add(node.inside_count())
     }
@@ -346,12 +346,12 @@ impl Collector {
         }
     }
 
-    // Returns whether the innermost node ends before the element of a number.
+    // Returns whether the innermost node ends before the element with a number.
     fn ends_before(&self, number: usize) -> bool {
         self.frames.last().is_some_and(|frame| frame.end <= number)
     }
 
-    // Leaves the nodes that end before the element of a number.
+    // Leaves the nodes that end before the element with a number.
     fn leave_nodes(&mut self, number: usize) {
         for _ in 0..self.frames.len() {
             if !self.ends_before(number) {

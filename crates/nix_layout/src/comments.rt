@@ -25,7 +25,7 @@ fn ended(gap: Gap, line_feeds: usize, may_be_empty: bool) -> Gap {
     }
 }
 
-// Returns the same gap with a blank.
+// Returns the same gap with one space and no line feed.
 fn spaced(gap: Gap) -> Gap {
     Gap {
         blanks: 1,
@@ -45,7 +45,7 @@ fn comment_level(spacing: Spacing) -> Level {
     }
 }
 
-// Returns the gap before a comment, by whether it is the first of its comments, whether the comment before it ended its line, and whether this one does.
+// Returns the gap before a comment, given whether it is the first of its comments, whether the one before it ended its line, and whether this one does.
 fn comment_gap(
     piece: &Piece,
     spacing: Spacing,

@@ -1,11 +1,11 @@
-//! The nodes that the walk is in.
+//! The nodes around the walk's position.
 
 use crate::grouping::is_grouped;
 use crate::layout::Target;
 use rnix::SyntaxKind;
 use rnix::ast::BinOpKind;
 
-/// A node that the walk is in.
+/// A node that the walk has entered and not left.
 #[derive(Clone, Copy)]
 pub struct Frame {
     pub kind: SyntaxKind,
@@ -27,7 +27,7 @@ pub struct Frame {
     pub end: usize,
 }
 
-/// Stands in for the node around the root.
+/// The frame around that of the root, which belongs to no node.
 pub const NO_FRAME: Frame = Frame {
     kind: SyntaxKind::NODE_ERROR,
     operator: None,
@@ -41,7 +41,7 @@ pub const NO_FRAME: Frame = Frame {
     end: 0,
 };
 
-/// Returns whether a node has a group of its own, or else shares that of its parent.
+/// Returns whether a node has a group of its own instead of sharing its parent's.
 pub fn has_group(parent: &Frame, kind: SyntaxKind, operator: Option<BinOpKind>) -> bool {
     match kind {
         SyntaxKind::NODE_APPLY => {

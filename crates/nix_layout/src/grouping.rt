@@ -52,7 +52,7 @@ pub fn plain_child(kind: SyntaxKind) -> Child {
     }
 }
 
-/// Describes a node that the walk is about to enter. Its children are looked at where that matters alone.
+/// Describes a node that the walk is about to enter. Looks at the node's children only if they matter.
 pub fn child_of(node: &SyntaxNode<'_>) -> Child {
     let kind = node.kind();
     let is_bracketed = matches!(kind, SyntaxKind::NODE_ATTR_SET | SyntaxKind::NODE_LIST);

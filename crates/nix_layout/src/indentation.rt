@@ -7,22 +7,22 @@ use rnix_base::is_indented;
 // The largest indentation that Nix removes from lines.
 const LIMIT: usize = 1_000_000;
 
-// What is known of the lines of a string so far.
+// What is known about the lines of a string so far.
 #[derive(Clone, Copy)]
 struct Scan {
     // The smallest indentation of a line with text.
     least: usize,
     // The number of spaces of the current line, while it has nothing else.
     blanks: Option<usize>,
-    // Whether a line feed was seen.
+    // Whether there was a line feed.
     is_broken: bool,
-    // Whether the string can be moved: nothing but spaces is on the line of the opening quotes, no line begins with a tab or a carriage return, and
-    // none that begins at an escaped line feed has spaces there.
+    // Whether the string can be moved: the line of the opening quotes has nothing but spaces, no line begins with a tab or a carriage return, and
+    // no line that begins at an escaped line feed has spaces there.
     can_move: bool,
 }
 
 impl Scan {
-    // Returns the state after an interpolation, or a byte that is neither a space nor a line feed: a tab or a carriage return, or another one.
+    // Returns the state after an interpolation or a byte other than a space or a line feed; `is_tab` says whether it is a tab or a carriage return.
     fn with_text(self, is_tab: bool) -> Scan {
         match self.blanks {
             Some(blanks) => Scan {
@@ -78,8 +78,8 @@ impl Scan {
 }
 
 /// Returns the smallest indentation of a string's lines, if the string can be moved: it is in `''`, has several lines, has nothing but spaces on the
-/// line of the opening quotes, no line begins with a tab or a carriage return, and none that begins at an escaped line feed has spaces there. It is
-/// `LIMIT` if it would be larger, or if no line has text.
+/// line of the opening quotes, and has no line that begins with a tab, a carriage return or, after an escaped line feed, a space. The result is
+/// `LIMIT` if the indentation is larger, or if no line has text.
 pub fn indentation_of(string: &SyntaxNode<'_>) -> Option<usize> {
     if !is_indented(string) {
         return None;

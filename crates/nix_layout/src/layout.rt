@@ -3,7 +3,7 @@
 use crate::lines::Line;
 use crate::piece::Piece;
 
-/// The number of spaces of a level.
+/// The number of spaces per level.
 pub const STEP: usize = 2;
 
 /// The part of a group that may be broken while the rest of the group is not: from its opening bracket or quote to the closing one.
@@ -39,7 +39,7 @@ impl Group {
     }
 }
 
-/// A text as pieces and groups, with the lines of strings that are moved. Groups are in the order of their first pieces, outer groups before inner ones.
+/// A text as pieces and groups, with the lines of its movable strings. Groups are in the order of their first pieces, outer groups before inner ones.
 #[derive(Drop)]
 pub struct Layout {
     pub pieces: Vec<Piece>,

@@ -11,7 +11,7 @@ const RETURN_AND_FEED: &str = "\r\n";
 #[derive(Clone, Copy)]
 struct Search<'a> {
     text: &'a str,
-    // Where the white space begins in which the next line end may be, and whether it follows a comment with `#`.
+    // Where the white space begins that may contain the next line end, and whether it follows a comment with `#`.
     start: usize,
     follows_comment: bool,
     // The first line end after a comment with `#`.
@@ -30,7 +30,7 @@ impl<'a> Search<'a> {
         })
     }
 
-    // Returns the state after a piece, before which there is no line end or one after a comment.
+    // Returns the state after a piece before which there is no line end, or only one after a comment.
     fn after(self, piece: &Piece, found: Option<&'static str>) -> Search<'a> {
         Search {
             start: piece.end,
@@ -40,7 +40,7 @@ impl<'a> Search<'a> {
         }
     }
 
-    // Returns the line end to be written, for the last one of the text.
+    // Returns the line end to be written, given the last one of the text.
     fn finish(self, last: Option<&'static str>) -> &'static str {
         let found = if self.follows_comment {
             self.comment_end.or(last)
@@ -62,13 +62,13 @@ pub fn comment_end_of(text: &str, pieces: &[Piece]) -> &'static str {
     }
 }
 
-/// Returns the first line end of a text that is between tokens and does not end a comment with `#`, whose carriage return belongs to the comment. If
-/// there is none, it is the first one after such a comment, and otherwise a line feed.
+/// Returns the first line end of a text that is between tokens and does not end a comment with `#`, whose carriage return belongs to the comment.
+/// If there is none, returns the first one after such a comment, or else a line feed.
 pub fn line_end_of(text: &str, pieces: &[Piece]) -> &'static str {
     let Some(feed) = text.find('\n') else {
         return FEED;
     };
-    // Before the first line feed there is no line end.
+    // There is no line end before the first line feed.
     let passed = pieces.partition_point(|piece| piece.end <= feed);
     let (before, rest) = pieces.split_at(passed);
     let mut search = Search {

@@ -1,12 +1,12 @@
 //! Escaped line feeds in strings in `''`.
 //!
-//! At an escaped line feed Nix begins a line, which loses spaces as the others do, although its own spaces do not count for the smallest indentation.
-//! So such a line would keep other spaces if the string were moved.
+//! At an escaped line feed Nix begins a line. That line loses spaces like the others, but its own spaces do not count for the smallest indentation.
+//! If the string were moved, such a line would therefore keep a different number of spaces.
 
 // The part of an escape that was read last.
 #[derive(Clone, Copy, PartialEq, Eq)]
 enum EscapeState {
-    // None: the scan is before or after an escape.
+    // No part: the scan is before or after an escape.
     Outside,
     // After `'`.
     Quote,
@@ -16,13 +16,13 @@ enum EscapeState {
     Backslash,
 }
 
-// What is known of a text so far.
+// What is known about a text so far.
 #[derive(Clone, Copy)]
 struct Scan {
     state: EscapeState,
     // Whether the last character was the escape of a line feed.
     follows_feed: bool,
-    // Whether a line that begins at an escaped line feed begins with a space, or may do so.
+    // Whether some line that begins at an escaped line feed begins with a space, or may do so.
     has_spaces: bool,
 }
 
@@ -36,12 +36,12 @@ impl Scan {
         }
     }
 
-    // Returns the state in an escape, or what may be one.
+    // Returns the state inside an escape, or inside what may become one.
     fn at(self, state: EscapeState) -> Scan {
         Scan { state, ..self }
     }
 
-    // Returns the state after the byte that follows `''\`. The line after a line feed that is written as such is moved with the others.
+    // Returns the state after the byte that follows `''\`. If the byte is a line feed, the next line is moved with the others.
     fn with_escaped(self, byte: u8) -> Scan {
         match byte {
             b'n' => self.after(true, false),

@@ -6,10 +6,10 @@ use crate::piece::{MovedLines, Piece};
 use rnix::{NodeOrToken, SyntaxElement, SyntaxKind, SyntaxNode, SyntaxToken, WalkEvent};
 use std::alloc::{AllocError, Global};
 
-/// What a line of a string holds.
+/// The contents of a line of a string.
 #[derive(Clone, Copy, PartialEq, Eq)]
 pub enum Role {
-    /// Text, or code of an interpolation, so many spaces to the right of the leftmost text of the outermost string.
+    /// Text, or code of an interpolation, this number of columns to the right of the leftmost text of the outermost string.
     Text(usize),
     /// Nothing but the spaces that all lines lose.
     Empty,
@@ -17,14 +17,14 @@ pub enum Role {
     Closing,
 }
 
-/// A line of a string that is moved: other spaces are written in place of those at its start.
+/// A line of a string that is moved: the spaces at its start are replaced.
 #[derive(Clone, Copy, PartialEq, Eq)]
 pub struct Line {
     /// Where it begins in the old text, in bytes.
     pub start: usize,
     /// The number of spaces at its start.
     pub blanks: usize,
-    /// What it holds.
+    /// Its contents.
     pub role: Role,
 }
 
@@ -34,7 +34,7 @@ impl Line {
         self.start.saturating_add(self.blanks)
     }
 
-    /// Returns the number of spaces that are written, for the indentation of the code.
+    /// Returns the number of spaces that are written at its start, given the indentation of the code.
     pub fn indent(self, code: usize) -> usize {
         match self.role {
             Role::Text(offset) => code.saturating_add(STEP).saturating_add(offset),
@@ -44,19 +44,19 @@ impl Line {
     }
 }
 
-// A string that is moved, as all strings around it are.
+// A string that is moved, as are all strings around it.
 #[derive(Clone, Copy)]
 struct MovedString {
-    // The smallest indentation of its lines, and of those of the outermost string.
+    // The smallest indentation of its lines, and that of the outermost string's lines.
     least: usize,
     outermost: usize,
-    // The columns from the leftmost text of the outermost string to its own, after the move.
+    // The number of columns from the leftmost text of the outermost string to its own, after the move.
     offset: usize,
 }
 
 impl MovedString {
     // Returns the state for a string inside this one, given the smallest indentation of its lines. After the move it is never to the left of this one, so
-    // another move leaves it where it is.
+    // that another move does not change it.
     fn around(self, least: usize) -> MovedString {
         let inner = least.saturating_sub(self.least);
         MovedString {
@@ -66,8 +66,8 @@ impl MovedString {
         }
     }
 
-    // Returns the columns from the leftmost text of the outermost string to a line of this one, after the move. Lines with code or closing quotes may be to the
-    // left of the string's text.
+    // Returns the number of columns from the leftmost text of the outermost string to a line of this one, after the move. Lines with code or closing quotes may
+    // be to the left of the string's text.
     fn offset_of(self, blanks: usize) -> usize {
         match blanks.checked_sub(self.least) {
             Some(more) => self.offset.saturating_add(more),
@@ -80,9 +80,9 @@ impl MovedString {
 #[derive(Drop)]
 struct LineWalk {
     lines: Vec<Line>,
-    // Each string around the current place, if it is moved.
+    // For each string around the current position, its state if it is moved.
     strings: Vec<Option<MovedString>>,
-    // The current line, while it has nothing but spaces.
+    // The current line, if it has nothing but spaces so far.
     current: Option<Line>,
 }
 
@@ -104,21 +104,21 @@ impl LineWalk {
         }
     }
 
-    // Returns the state for a string inside the outermost one, given the smallest indentation of its lines if it can be moved alone. It is moved if all strings
+    // Returns the state for a string inside the innermost one, given the smallest indentation of its lines if it can be moved alone. It is moved if all strings
     // around it are.
     fn inside(&self, least: Option<usize>) -> Option<MovedString> {
         let outer = self.innermost()?;
         Some(outer.around(least?))
     }
 
-    // Adds a line, and passes its spaces.
+    // Adds a line, and skips its spaces.
     fn add_line(&mut self, line: Line, role: Role) -> Result<(), AllocError> {
         self.lines.push(Line { role, ..line })?;
         self.current = None;
         Ok(())
     }
 
-    // Adds the current line before text or code, if it has nothing but spaces so far.
+    // Before text or code, adds the current line if it has nothing but spaces so far.
     fn end_blanks(&mut self, string: MovedString) -> Result<(), AllocError> {
         match self.current {
             Some(line) => self.add_line(line, Role::Text(string.offset_of(line.blanks))),
@@ -136,7 +136,7 @@ impl LineWalk {
         Ok(())
     }
 
-    // Adds a part of a line: its spaces to the current line, if that has nothing else, which ends before anything but a space.
+    // Adds a part of a line: its leading spaces to the current line, if that has nothing else. Anything other than a space ends the current line.
     fn add_part(&mut self, part: &str, string: MovedString) -> Result<(), AllocError> {
         let Some(line) = self.current else {
             return Ok(());
@@ -255,7 +255,7 @@ fn lines_of(alloc: Global, string: &SyntaxNode<'_>, least: usize) -> Result<Vec<
     Ok(walk.lines)
 }
 
-// Returns the number of characters of a string's last line, if that is the given line; it counts from the indentation of the code.
+// Returns the number of characters of a string's last line, if that is the given line; they are counted from the indentation of the code.
 fn last_width(piece: &Piece, text: &str, line: Line) -> Option<usize> {
     let rest = text.get(line.end_of_blanks().saturating_sub(piece.start)..)?;
     if rest.contains('\n') {
@@ -264,7 +264,7 @@ fn last_width(piece: &Piece, text: &str, line: Line) -> Option<usize> {
     Some(line.indent(0).saturating_add(rest.chars().count()))
 }
 
-/// Returns the piece of a string with its lines, if they are moved, which are added to those of other strings.
+/// Returns the piece of a string. If the string's lines are moved, adds them to those of other strings.
 pub fn with_lines(
     alloc: Global,
     string: &SyntaxNode<'_>,

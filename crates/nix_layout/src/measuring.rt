@@ -1,19 +1,19 @@
-//! Sums of widths of pieces, so that it takes constant time to see whether a group fits on a line.
+//! Prefix sums of the widths of pieces, which tell in constant time whether a group fits on a line.
 
 use crate::layout::{Group, Layout, Target};
 use crate::piece::Piece;
 use std::alloc::{AllocError, Global};
 
-/// Widths and ends of lines, up to each piece.
+/// Widths of pieces and ends of lines, summed up to each piece.
 #[derive(Drop)]
 pub struct Measures {
-    // For each piece, and last, for the whole text.
+    // One for each piece, and a last one for the whole text.
     sums: Vec<Sum>,
-    // The number of columns from each gap to the next place where the line may end, in reverse: first 0, for the end of the text.
+    // The number of columns from each gap to the next place where the line may end, in reverse order: the first is 0, for the end of the text.
     tails: Vec<usize>,
 }
 
-// What is counted up to a piece.
+// The sums up to a piece.
 #[derive(Clone, Copy)]
 struct Sum {
     // The column at which the piece ends, if all pieces are written on one line; 0 for the whole text.
@@ -22,7 +22,7 @@ struct Sum {
     breaks: usize,
 }
 
-/// The room for a group on its line.
+/// The space for a group on its line.
 #[derive(Clone, Copy)]
 pub struct Room {
     /// The column at which the group begins.
@@ -31,7 +31,7 @@ pub struct Room {
     pub indent: usize,
     /// The number of columns that have to follow on the same line.
     pub tail: usize,
-    /// The columns of a line.
+    /// The width of the line.
     pub limit: usize,
 }
 
@@ -66,7 +66,7 @@ fn sums_of(alloc: Global, pieces: &[Piece]) -> Result<Vec<Sum>, AllocError> {
     Ok(sums)
 }
 
-// Returns the number of columns from each gap to the next place where the line may end, in reverse: first 0, for the end of the text.
+// Returns the number of columns from each gap to the next place where the line may end, in reverse order: the first is 0, for the end of the text.
 fn tails_of(alloc: Global, pieces: &[Piece]) -> Result<Vec<usize>, AllocError> {
     let mut tails = Vec::with_capacity(alloc, pieces.len().saturating_add(1))?;
     let mut tail = 0usize;
@@ -93,7 +93,7 @@ impl Measures {
         })
     }
 
-    /// Counts the unconditional line ends again, of pieces of which other gaps are hard.
+    /// Counts the unconditional line ends again, after other gaps have become hard.
     pub fn count_breaks(&mut self, pieces: &[Piece]) {
         let mut breaks = 0usize;
         for number in 0..self.sums.len() {

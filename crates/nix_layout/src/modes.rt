@@ -7,7 +7,7 @@ use std::alloc::{AllocError, Global};
 
 // The number of columns of a line.
 const LINE: usize = 100;
-/// The most spaces at the start of a line.
+/// The largest number of spaces at the start of a line.
 pub const MOST_BLANKS: usize = 80;
 
 // How a group is written.
@@ -17,7 +17,7 @@ enum Mode {
     Flat,
     // With its target broken.
     Around,
-    // With a line for each of its parts.
+    // With a line for each part.
     Broken,
 }
 
@@ -30,7 +30,7 @@ pub struct LineState {
     pub indent: usize,
 }
 
-// A group that was begun.
+// A group that has begun.
 #[derive(Clone, Copy)]
 struct Opened {
     mode: Mode,
@@ -38,7 +38,7 @@ struct Opened {
     line_state: LineState,
 }
 
-// Stands in for a group that does not exist.
+// The state of a group that does not exist.
 const UNKNOWN: Opened = Opened {
     mode: Mode::Broken,
     line_state: LineState {
@@ -62,16 +62,16 @@ fn indent_of(opened: Opened, level: Level) -> usize {
     }
 }
 
-/// The groups of a layout that were begun.
+/// The groups of a layout that have begun.
 #[derive(Drop)]
 pub struct Modes {
     measures: Measures,
-    // By their numbers.
+    // Indexed by their numbers.
     opened: Vec<Opened>,
 }
 
 impl Modes {
-    /// No groups.
+    /// Returns the modes of a layout none of whose groups has begun.
     pub fn of(alloc: Global, layout: &Layout) -> Result<Modes, AllocError> {
         Ok(Modes {
             measures: Measures::of(alloc, layout)?,
@@ -79,7 +79,7 @@ impl Modes {
         })
     }
 
-    // Returns the group of a number.
+    // Returns the group with a number.
     fn group_at(&self, number: usize) -> Opened {
         self.opened.get(number).copied().unwrap_or(UNKNOWN)
     }
@@ -130,7 +130,7 @@ impl Modes {
         }
     }
 
-    // Returns the mode of a group that begins in a state of its line.
+    // Returns the mode of a group that begins in a given state of its line.
     fn mode_of(
         &self,
         layout: &Layout,
@@ -161,7 +161,7 @@ impl Modes {
         }
     }
 
-    /// Begins the groups whose first piece this is; `line_state` is that before the piece.
+    /// Begins the groups that start with this piece; `line_state` is the state before the piece.
     pub fn open(
         &mut self,
         layout: &Layout,
@@ -181,7 +181,7 @@ impl Modes {
         Ok(())
     }
 
-    // Returns whether a group that begins where it began has the same mode.
+    // Returns whether a group would have the same mode if it began where it began before.
     fn is_kept(&self, layout: &Layout, number: usize) -> bool {
         match (layout.groups.get(number), self.opened.get(number)) {
             (Some(group), Some(opened)) => {
@@ -191,7 +191,7 @@ impl Modes {
         }
     }
 
-    /// Returns whether all groups have the same modes in another layout, which differs in its hard gaps.
+    /// Returns whether all groups have the same modes in another layout, which differs only in which gaps are hard.
     pub fn are_kept(&mut self, layout: &Layout) -> bool {
         self.measures.count_breaks(&layout.pieces);
         for number in 0..layout.groups.len() {

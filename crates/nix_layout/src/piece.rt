@@ -9,7 +9,7 @@ pub struct Gap {
     pub can_break: bool,
     /// Whether the line always ends here.
     pub is_hard: bool,
-    /// Whether the line always ends here in the layout of the new text, if it ends here in that text.
+    /// Whether the line always ends here in the layout of the new text, if it ends here in the new text.
     pub keeps_break: bool,
     /// Whether an empty line follows if the line ends here.
     pub has_empty_line: bool,
@@ -19,14 +19,14 @@ pub struct Gap {
     pub level: Level,
 }
 
-/// The indentation of a line, relative to the line on which its group begins.
+/// The indentation of a line, relative to that of the line on which its group begins.
 #[derive(Clone, Copy, PartialEq, Eq)]
 pub enum Level {
-    /// The same.
+    /// The same indentation.
     Same,
     /// One level more.
     Inner,
-    /// The same if the group begins its line, and one level more otherwise.
+    /// The same indentation if the group begins its line, and one level more otherwise.
     Operator,
 }
 
@@ -52,7 +52,7 @@ pub struct Piece {
     pub width: usize,
     /// The number of characters of its last line, if it has several lines. If that line is moved, it counts from the indentation of the code.
     pub last_width: Option<usize>,
-    /// The lines that are moved, if it is a string of which some are.
+    /// The lines of the piece that are moved, if it is a string with such lines.
     pub moved_lines: Option<MovedLines>,
     /// Whether it is a comment.
     pub is_comment: bool,
@@ -85,8 +85,8 @@ pub fn line_feeds_in(text: &str) -> usize {
 }
 
 impl Piece {
-    /// Returns a part of the old text whose characters are all of ASCII and no line feeds, with no gap yet: a name, or a token of a text without errors that is
-    /// no white space, no comment and no part of a string.
+    /// Returns a piece of the old text with no gap yet, whose characters are ASCII and not line feeds: a name, or a token of a text without errors that is
+    /// not white space, a comment or a part of a string.
     pub fn of_word(start: usize, end: usize) -> Piece {
         Piece {
             start,

@@ -1,6 +1,6 @@
 //! Whether a new text stays the same when it is formatted again.
 //!
-//! The second run has the same pieces, of the same widths, in the same groups. Only their gaps differ: where a line feed was written that the second run keeps,
+//! The second run has the same pieces, of the same widths, in the same groups. Only the gaps differ: where a line feed was written that the second run keeps,
 //! the gap is hard. So its text is the same if its groups have the same modes, and its line ends are the same.
 
 use crate::layout::Layout;
@@ -8,7 +8,7 @@ use crate::line_ends::comment_end_of;
 use crate::modes::Modes;
 use crate::piece::{Gap, Piece};
 
-// Returns whether the line ends between two pieces of which the first one is no comment with `#`, or at the end of the text.
+// Returns whether the line ends between two pieces, the first of which is not a comment with `#`, or at the end of the text.
 fn has_line_end(pieces: &[Piece], modes: &Modes) -> bool {
     let mut follows_comment = true;
     for piece in pieces {
@@ -20,7 +20,7 @@ fn has_line_end(pieces: &[Piece], modes: &Modes) -> bool {
     !follows_comment
 }
 
-// Makes the gaps hard at which the second run keeps a line feed. Returns whether there are any.
+// Makes the gaps hard where the second run keeps a line feed. Returns whether there are any.
 fn harden(pieces: &mut Vec<Piece>, modes: &Modes) -> bool {
     let mut are_any = false;
     for number in 0..pieces.len() {

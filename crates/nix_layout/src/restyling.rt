@@ -1,4 +1,4 @@
-//! Texts with another layout.
+//! Texts in a new layout.
 
 use crate::collecting::layout_of;
 use crate::repeating::is_repeated;
@@ -6,7 +6,7 @@ use crate::writing::written;
 use rnix::SyntaxNode;
 use std::alloc::{AllocError, Global};
 
-/// A text with another layout.
+/// A text in a new layout.
 #[derive(Drop)]
 pub struct NewText {
     /// The text.
@@ -15,8 +15,8 @@ pub struct NewText {
     pub is_stable: bool,
 }
 
-/// Returns a text with the white space and the indentation of strings that the style of Nixpkgs asks for. The root is that of the text, which has no
-/// errors. Nothing is promised of the result: `formatted` of `nix_formatting` compares it with the text.
+/// Returns a text with the white space and the indentation of strings in the style of Nixpkgs, given its root. The text has no errors.
+/// The contract says nothing about the result: `formatted` of `nix_formatting` compares it with the text.
 pub fn styled(alloc: Global, text: &str, root: &SyntaxNode<'_>) -> Result<NewText, AllocError> {
     let mut layout = layout_of(alloc, root)?;
     let mut made = written(alloc, text, &layout)?;

@@ -1,4 +1,4 @@
-//! The white space between two children of a node: one table, by the kinds of the node and of the two.
+//! The white space between two children of a node: one table, indexed by the kinds of the node and of the two children.
 
 use crate::piece::Level;
 use rnix::SyntaxKind;
@@ -22,7 +22,7 @@ pub struct Spacing {
     pub opens: bool,
     /// Whether a closing bracket or keyword follows.
     pub closes: bool,
-    /// Whether the group is that of the condition.
+    /// Whether the gap belongs to the group of the condition.
     pub is_inner: bool,
 }
 
@@ -120,7 +120,7 @@ fn inner(spacing: Spacing) -> Spacing {
     }
 }
 
-// Between the brackets of a set or a list.
+// Returns the white space between two children of a set or a list.
 fn bracketed(before: SyntaxKind, next: SyntaxKind) -> Spacing {
     match (before, next) {
         (SyntaxKind::TOKEN_REC | SyntaxKind::TOKEN_LET, _) => SPACED,
@@ -132,7 +132,7 @@ fn bracketed(before: SyntaxKind, next: SyntaxKind) -> Spacing {
     }
 }
 
-// In a `let`.
+// Returns the white space between two children of a `let`.
 fn in_let(before: SyntaxKind, next: SyntaxKind) -> Spacing {
     match (before, next) {
         (_, SyntaxKind::TOKEN_IN) => closing(hard(LINE)),
@@ -142,7 +142,7 @@ fn in_let(before: SyntaxKind, next: SyntaxKind) -> Spacing {
     }
 }
 
-// In a `with` or an `assert`.
+// Returns the white space between two children of a `with` or an `assert`.
 fn in_prefix(before: SyntaxKind, next: SyntaxKind) -> Spacing {
     match (before, next) {
         (_, SyntaxKind::TOKEN_SEMICOLON) => GLUED,
@@ -151,7 +151,7 @@ fn in_prefix(before: SyntaxKind, next: SyntaxKind) -> Spacing {
     }
 }
 
-// In a conditional.
+// Returns the white space between two children of a conditional.
 fn in_conditional(before: SyntaxKind, next: SyntaxKind) -> Spacing {
     match (before, next) {
         (SyntaxKind::TOKEN_IF, _) => inner(opening(LINE)),
@@ -162,7 +162,7 @@ fn in_conditional(before: SyntaxKind, next: SyntaxKind) -> Spacing {
     }
 }
 
-// In a function.
+// Returns the white space between two children of a function.
 fn in_lambda(next: Child) -> Spacing {
     if next.kind == SyntaxKind::TOKEN_COLON {
         GLUED
@@ -173,7 +173,7 @@ fn in_lambda(next: Child) -> Spacing {
     }
 }
 
-// In a pattern.
+// Returns the white space between two children of a pattern.
 fn in_pattern(before: SyntaxKind, next: SyntaxKind) -> Spacing {
     match (before, next) {
         (SyntaxKind::TOKEN_L_BRACE, SyntaxKind::TOKEN_R_BRACE) => closing(SPACED),
@@ -185,7 +185,7 @@ fn in_pattern(before: SyntaxKind, next: SyntaxKind) -> Spacing {
     }
 }
 
-// In an `inherit`.
+// Returns the white space between two children of an `inherit`.
 fn in_inherit(before: SyntaxKind, next: SyntaxKind) -> Spacing {
     match (before, next) {
         (SyntaxKind::TOKEN_INHERIT, SyntaxKind::TOKEN_SEMICOLON) => GLUED,
@@ -196,7 +196,7 @@ fn in_inherit(before: SyntaxKind, next: SyntaxKind) -> Spacing {
     }
 }
 
-// In an entry of a set.
+// Returns the white space between two children of an entry.
 fn in_entry(before: SyntaxKind, next: Child) -> Spacing {
     match next.kind {
         SyntaxKind::TOKEN_SEMICOLON => GLUED,
@@ -212,7 +212,7 @@ fn in_entry(before: SyntaxKind, next: Child) -> Spacing {
     }
 }
 
-// In a selection. After a path or a number a space is needed, since `.` would continue it.
+// Returns the white space between two children of a selection. After a path or a number a space is needed, since they would otherwise include the `.`.
 fn in_selection(before: SyntaxKind, next: SyntaxKind) -> Spacing {
     match (before, next) {
         (_, SyntaxKind::TOKEN_OR) | (SyntaxKind::TOKEN_OR, _) => SPACED,
@@ -227,7 +227,7 @@ fn in_selection(before: SyntaxKind, next: SyntaxKind) -> Spacing {
     }
 }
 
-// In an attribute that is computed.
+// Returns the white space between two children of a computed attribute.
 fn in_dynamic(before: SyntaxKind, next: SyntaxKind) -> Spacing {
     if before == SyntaxKind::TOKEN_INTERPOL_START || next == SyntaxKind::TOKEN_INTERPOL_END {
         GLUED
@@ -236,7 +236,7 @@ fn in_dynamic(before: SyntaxKind, next: SyntaxKind) -> Spacing {
     }
 }
 
-// In parentheses.
+// Returns the white space between two children of parentheses.
 fn in_paren(before: SyntaxKind) -> Spacing {
     if before == SyntaxKind::TOKEN_L_PAREN {
         opening(SOFT)
@@ -245,7 +245,7 @@ fn in_paren(before: SyntaxKind) -> Spacing {
     }
 }
 
-// In an operation.
+// Returns the white space between two children of an operation.
 fn in_operation(next: SyntaxKind) -> Spacing {
     if next < SyntaxKind::NODE_APPLY {
         Spacing {
@@ -274,7 +274,7 @@ pub fn distant(spacing: Spacing) -> Spacing {
     }
 }
 
-/// Returns the same white space, with a line feed if there may be one.
+/// Returns the same white space, with a line feed if one is allowed.
 pub fn broken(spacing: Spacing) -> Spacing {
     Spacing {
         is_hard: spacing.can_break,
@@ -287,7 +287,7 @@ pub fn after_first_comma() -> Spacing {
     SPACED
 }
 
-/// Returns the white space before the first item of a text, and behind the last one.
+/// Returns the white space before the first item of a text, and after the last one.
 pub fn around_text() -> Spacing {
     keeping_empty(level(GLUED))
 }

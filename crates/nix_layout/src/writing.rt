@@ -1,4 +1,4 @@
-//! Writes pieces and the gaps between them.
+//! Writes the pieces and the gaps between them.
 
 use crate::layout::Layout;
 use crate::line_ends::line_end_of;
@@ -14,20 +14,20 @@ const BLANKS: &str =
 #[derive(Drop)]
 pub struct Output {
     pub text: String,
-    /// What ends its lines.
+    /// The line end.
     pub line_end: &'static str,
-    /// How its groups are written.
+    /// How the groups are written.
     pub modes: Modes,
 }
 
-// The state of writing.
+// The state while a layout is written.
 #[derive(Drop)]
 struct Writer<'a> {
     text: &'a str,
     layout: &'a Layout,
     modes: Modes,
     made: String,
-    // What ends lines, and whether the last piece is a comment with `#`, which has its own carriage return.
+    // The line end, and whether the last piece is a comment with `#`, which has its own carriage return.
     line_end: &'static str,
     follows_comment: bool,
     // The line that is being written.
@@ -87,7 +87,7 @@ impl<'a> Writer<'a> {
             .push_str(BLANKS.get(..count % MOST_BLANKS).unwrap_or(""))
     }
 
-    // Copies a string with other spaces at the start of its lines.
+    // Copies a string, replacing the spaces at the start of its lines.
     fn write_lines(&mut self, piece: &Piece, moved_lines: MovedLines) -> Result<(), AllocError> {
         let mut start = piece.start;
         for number in moved_lines.first..moved_lines.end {

@@ -1,4 +1,4 @@
--- The names of entries, one after the other.
+-- The names of entries, one after another.
 use Rattle.std.proofs.Common.{◌≡◌, ℕ, List, [], ◌∷◌, ◌++◌, map, Bool, true, false, Option, Some, None, refl, ap, sym, ◌∙◌}
 use Rattle.std.specs.Prelude.{flat_map, if◌then◌else◌}
 use Rattle.rnix_kinds.specs.declared.kinds.SyntaxKind.TheVariants as k
@@ -9,7 +9,7 @@ use Rattle.nix_lints.specs.DefinedNames.{Name, start_of, value_start, definition
 use Rattle.nix_lints.specs.{Attributes.AddsNames, declared.attributes.Attributes.Attributes}
 use Rattle.nix_lints.proofs.RepeatedLemmas.{AddsSome, adds_begun, adds_next, adds_all, adds_none}
 
--- a node that is no entry defines no names
+-- a node that is not an entry defines no names
 pub no_entry : (e one two : Located) → one ≡ e → two ≡ e → false ≡ same_kind k.NODE_INHERIT (item_of one).kind →
     false ≡ same_kind k.NODE_ATTRPATH_VALUE (item_of two).kind → names_at e ≡ []
 no_entry e one two is also no_inherit no_value =
@@ -30,7 +30,7 @@ pub node_next : (old mid new : Attributes) (all : List Name) (before after : Lis
 node_next old mid new all before after e some first more =
     adds_next old mid new (flat_map names_at before) (names_at e) (flat_map names_at after) all some (ap (flat_map names_at) first) more
 
--- one more name that is inherited
+-- one more inherited name
 pub inherited_next : (owner : ℕ) (old mid new : Attributes) (all : List Name) (before after : List Located) (e : Located) →
     AddsSome old mid (map (inherited_at owner) before) all → before ≡ e ∷ after → AddsNames mid new (inherited_at owner e ∷ []) →
     AddsSome old new (map (inherited_at owner) after) all

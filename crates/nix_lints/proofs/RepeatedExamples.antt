@@ -8,11 +8,11 @@ use Rattle.rnix_kinds.specs.declared.kinds.SyntaxKind.TheVariants as k
 abbrev repeated : Forest → List Repetition
 repeated f = repeated_in record { tree = record { kind = k.NODE_ROOT; children = f }; number = 0 }
 
--- one byte
+-- the range of one byte
 abbrev byte : ℕ → Extent
 byte start = record { start = start; end = start + 1 }
 
--- the name of one byte that begins here, and the one that it repeats
+-- the name of one byte that begins at an offset, and the name that it repeats
 abbrev again : ℕ → ℕ → Repetition
 again later first = (byte later, byte first)
 

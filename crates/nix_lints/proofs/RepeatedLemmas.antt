@@ -1,4 +1,4 @@
--- Names that are added one after the other, and the repetitions among them.
+-- Names that are added one after another, and the repetitions among them.
 use Rattle.std.proofs.Common.{◌≡◌, List, [], ◌∷◌, ◌++◌, map, Option, Some, None, refl, ap, sym, ◌∙◌, subst}
 use Rattle.std.proofs.lemmas.List.{append_assoc, append-nil}
 use Rattle.std.specs.Option.{option_to_list}
@@ -8,7 +8,7 @@ use Rattle.nix_lints.specs.DefinedNames.{Name}
 use Rattle.nix_lints.specs.declared.{attributes.Attributes.Attributes, repeated.Repeated.Repeated}
 use Rattle.nix_lints.proofs.TableLemmas.{empty_table}
 
--- names after others
+-- adding names after others
 with_names_after : (known : Known) (names more : List Name) → with_names known (names ++ more) ≡ with_names (with_names known names) more
 with_names_after known [] more = refl
 with_names_after known (own ∷ names) more = with_names_after (with_name known own) names more
@@ -21,14 +21,14 @@ repetitions_among_later known (own ∷ names) more =
     ap (λ found. repetition (earlier known own) own.site ++ found) (repetitions_among_later (with_name known own) names more)
     ∙ sym (append_assoc (repetition (earlier known own) own.site) (repetitions_after (with_name known own) names) _)
 
--- no names are added
+-- adding no names
 pub adds_none : (attributes : Attributes) (names : List Name) → names ≡ [] → AddsNames attributes attributes names
 adds_none attributes names none = subst (AddsNames attributes attributes) (sym none) record {
   table = λ known table. table;
   repeated = λ known table. sym (append-nil (map repetition_of attributes.repeated.items));
 }
 
--- names are added, and then others
+-- adding names, and then others
 pub adds_both : (old mid new : Attributes) (names more : List Name) → AddsNames old mid names → AddsNames mid new more → AddsNames old new (names ++ more)
 adds_both old mid new names more one two = record {
   table = λ known table. subst (λ k. IsTable k new.attributes new.firsts) (sym (with_names_after known names more))
@@ -51,13 +51,13 @@ one_repeated known own old new found is are =
     map_after [] ys = refl
     map_after (x ∷ xs) ys = ap (λ found. repetition_of x ∷ found) (map_after xs ys)
 
--- some of all names were added, and others are left
+-- some of all names have been added, and others remain
 pub record AddsSome (old new : Attributes) (remaining all : List Name) : Type 0 where
   pub done : List Name
   pub are : AddsNames old new done
   pub whole : done ++ remaining ≡ all
 
--- no names were added yet
+-- no names have been added
 pub adds_begun : (attributes : Attributes) (remaining all : List Name) → remaining ≡ all → AddsSome attributes attributes remaining all
 adds_begun attributes remaining all is = record { done = []; are = adds_none attributes [] refl; whole = is }
 
@@ -70,7 +70,7 @@ adds_next old mid new remaining names after all some first more = record {
   whole = append_assoc some.done names after ∙ ap (λ rest. some.done ++ rest) (sym first) ∙ some.whole;
 }
 
--- no names are left
+-- no names remain
 pub adds_all : (old new : Attributes) (remaining all : List Name) → AddsSome old new remaining all → remaining ≡ [] → AddsNames old new all
 adds_all old new remaining all some none =
     subst (AddsNames old new) (sym (append-nil some.done) ∙ ap (λ rest. some.done ++ rest) (sym none) ∙ some.whole) some.are

@@ -1,4 +1,4 @@
--- The maps say what is known after one more name.
+-- The maps contain what is known after one more name.
 use Rattle.std.proofs.Common.{◌≡◌, ℕ, List, [], Bool, true, false, Option, Some, None, refl, ap, sym, ◌∙◌, subst, ◌==◌, arith}
 use Rattle.std.proofs.lemmas.{Bool.{false≢true, Decides.nat_tests}, Slice.Eq.bytes_eq-Decides, Map.Text.is_eq-slice_cmp}
 use Rattle.std.specs.Prelude.{cond, ◌&&◌, option_map, if◌then◌else◌}
@@ -10,12 +10,12 @@ use Rattle.nix_lints.specs.Repeated.{Known, nothing, earlier, attribute_from, wi
 use Rattle.nix_lints.specs.DefinedNames.{Site, named, site_of}
 use Rattle.nix_lints.specs.declared.definition.NameSite.{NameSite}
 
--- nothing after an option
+-- `None` as the alternative changes nothing
 or_none : {X : Type 0} (o : Option X) → option_or o None ≡ o
 or_none None = refl
 or_none (Some x) = refl
 
--- both ways lead to one place
+-- both branches have the same value
 same_both : {X : Type 0} (b : Bool) (x : X) → (if b then x else x) ≡ x
 same_both true x = refl
 same_both false x = refl
@@ -29,17 +29,17 @@ and_both false b is = absurd (false≢true is)
 abbrev pub key_with : ℕ → List ℕ → Key
 key_with home text = (home, Borrowed record { ref_ptr = (0, 0); now = text })
 
--- how two keys compare
+-- the order of two keys
 abbrev pub compare_keys : Key → Key → Ordering
 compare_keys a b = ordering_then (nat_cmp a.0 b.0) (slice_cmp nat_cmp (cow_str_bytes a.1) (cow_str_bytes b.1))
 
--- keys are the same where attributes and names are
+-- two keys are equal exactly if their attributes and names are
 same_key : (a b : ℕ) (s t : List ℕ) → is_eq (compare_key a s (key_with b t)) ≡ ((a == b) && bytes_eq s t)
 same_key a b s t =
     sym (tied_then (nat_cmp a b) (slice_cmp nat_cmp s t)) ∙ ap (λ e. e && is_eq (slice_cmp nat_cmp s t)) (unsigned_tied a b)
     ∙ ap (λ e. (a == b) && e) (is_eq-slice_cmp s t)
 
--- one attribute has a first name
+-- updating a key changes the first name of one attribute
 pub key_updated : (key : Key) (home : ℕ) (text : List ℕ) (name_site : Option NameSite) (old new : Key → Option NameSite) → key.0 ≡ home
     → cow_str_bytes key.1 ≡ text →
     ((query : Key) → new query ≡ cond (is_eq (compare_keys key query)) name_site (old query)) → (h : ℕ) (t : List ℕ) →
@@ -51,14 +51,14 @@ key_updated key home text name_site old new is_home is_text updates h t =
     ∙ ap (λ bytes. cond (is_eq (ordering_then (nat_cmp home h) (slice_cmp nat_cmp bytes t))) name_site was) is_text
     ∙ ap (λ e. cond e name_site was) (same_key home h text t)
 
--- the first name at such a key
+-- the first name stored at a key
 pub first_at : (firsts : FirstNames) (key : Key) (home : ℕ) (text : List ℕ) → key.0 ≡ home → cow_str_bytes key.1 ≡ text →
     get_by (compare_keys key) firsts ≡ first_by firsts home text
 first_at firsts key home text is_home is_text =
     ap (λ n. get_by (λ (k : Key). ordering_then (nat_cmp n k.0) (slice_cmp nat_cmp (cow_str_bytes key.1) (cow_str_bytes k.1))) firsts) is_home
     ∙ ap (λ bytes. get_by (λ (k : Key). ordering_then (nat_cmp home k.0) (slice_cmp nat_cmp bytes (cow_str_bytes k.1))) firsts) is_text
 
--- the names inside an open name have another attribute
+-- the names inside an open name get another attribute
 pub inner_updated : (attributes new : BTreeMap ℕ ℕ) (is_open : Bool) (inner attribute : ℕ) → is_open ≡ true →
     ((query : ℕ) → get nat_cmp new query ≡ cond (is_eq (nat_cmp inner query)) (Some attribute) (get nat_cmp attributes query)) → (owner : ℕ) →
     attribute_by new owner ≡ (if is_open && (inner == owner) then attribute else attribute_by attributes owner)
@@ -73,20 +73,20 @@ inner_updated attributes new is_open inner attribute does updates owner =
     chosen true = refl
     chosen false = refl
 
--- those inside a closed name keep theirs
+-- the names inside a closed name keep theirs
 pub inner_kept : (attributes : BTreeMap ℕ ℕ) (is_open : Bool) (inner attribute : ℕ) → is_open ≡ false → (owner : ℕ) →
     attribute_by attributes owner ≡ (if is_open && (inner == owner) then attribute else attribute_by attributes owner)
 inner_kept attributes is_open inner attribute does owner =
     ap (λ o. if o && (inner == owner) then attribute else attribute_by attributes owner) (sym does)
 
--- empty maps say what is known before the first name
+-- empty maps contain what is known before the first name
 pub empty_table : (attributes : BTreeMap ℕ ℕ) (firsts : FirstNames) → attributes.entries ≡ [] → firsts.entries ≡ [] → IsTable nothing attributes firsts
 empty_table attributes firsts no_attribute no_first = record {
   attributes_are = λ start. ap (λ es. unwrap_or (lookup (is_at (nat_cmp start)) es) start) no_attribute;
   firsts_are = λ home text. ap (λ es. option_map site_of (lookup (is_at (compare_key home text)) es)) no_first;
 }
 
--- a name is added that must be evaluated
+-- adding a name that must be evaluated
 pub unknown_added : (known : Known) (attributes : BTreeMap ℕ ℕ) (firsts : FirstNames) (own : Site) →
     IsTable known attributes firsts → IsTable (with_name known (named None own)) attributes firsts
 unknown_added known attributes firsts own table = record {
@@ -98,7 +98,7 @@ unknown_added known attributes firsts own table = record {
     none true first = or_none first
     none false first = or_none first
 
--- a first name is among those that are known
+-- a first name stays among those that are known
 first_kept : (b : Bool) (new old : Option NameSite) (first : Option Site) (name_site : NameSite) → new ≡ cond b (Some name_site) old
     → option_map site_of old ≡ first →
     (b ≡ true → first ≡ None) → option_map site_of new ≡ option_or first (if b then Some (site_of name_site) else None)
@@ -111,7 +111,7 @@ first_stays : (b : Bool) (first : Option Site) (site own : Site) → (b ≡ true
 first_stays true first site own is = is refl ∙ sym (ap (λ f. option_or f (Some own)) (is refl))
 first_stays false first site own is = sym (or_none first)
 
--- what is known of a name at the same attribute and the same name
+-- the first name that is known for an equal attribute and name
 at_same : (known : Known) (home h : ℕ) (text t : List ℕ) (o : Option Site) → known.first home text ≡ o →
     ((home == h) && bytes_eq text t) ≡ true → known.first h t ≡ o
 at_same known home h text t o is same =
@@ -120,7 +120,7 @@ at_same known home h text t o is same =
     let text_is : text ≡ t = (bytes_eq-Decides text t).0 parts.1 in
     ap (λ n. known.first n t) (sym home_is) ∙ ap (known.first home) (sym text_is) ∙ is
 
--- a name is added that is the first of its attribute
+-- adding a name that is the first of its attribute
 pub first_added : (known : Known) (attributes : BTreeMap ℕ ℕ) (old new : FirstNames) (text : List ℕ) (name_site : NameSite) →
     IsTable known attributes old → first_by old (attribute_by attributes name_site.owner) text ≡ None →
     ((h : ℕ) (t : List ℕ) → first_by new h t ≡ cond ((attribute_by attributes name_site.owner == h) && bytes_eq text t) (Some name_site) (first_by old h t)) →
@@ -139,7 +139,7 @@ first_added known attributes old new text name_site table none updated =
           (at_same known (known.attribute name_site.owner) h text t None absent);
     }
 
--- a name is added that defines an attribute again
+-- adding a name that defines an attribute again
 pub again_added : (known : Known) (old new : BTreeMap ℕ ℕ) (firsts : FirstNames) (text : List ℕ) (first name_site : NameSite) →
     IsTable known old firsts → first_by firsts (attribute_by old name_site.owner) text ≡ Some first →
     ((owner : ℕ) → attribute_by new owner ≡ (if name_site.is_open && (name_site.inner == owner) then first.inner else attribute_by old owner)) →
@@ -158,7 +158,7 @@ again_added known old new firsts text first name_site table some updated =
           (at_same known (known.attribute name_site.owner) h text t (Some (site_of first)) present);
     }
 
--- the first name that the map has is the one that is known
+-- the first name in the map is the one that is known
 pub earlier_found : (known : Known) (attributes : BTreeMap ℕ ℕ) (firsts : FirstNames) (text : List ℕ) (name_site : NameSite) (o : Option NameSite) →
     IsTable known attributes firsts → first_by firsts (attribute_by attributes name_site.owner) text ≡ o →
     earlier known (named (Some text) (site_of name_site)) ≡ option_map site_of o

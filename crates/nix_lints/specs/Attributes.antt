@@ -1,4 +1,4 @@
--- What the program keeps of the names that it has passed.
+-- What the program stores about the names that it has visited.
 use Rattle.std.specs.Prelude.{◌≡◌, ◌++◌, ℕ, List, [], map, Option, Some, None, option_map}
 use Rattle.std.specs.Option.{unwrap_or}
 use Rattle.std.specs.BTreeMap.{BTreeMap, get, get_by}
@@ -13,19 +13,19 @@ use Rattle.nix_lints.specs.DefinedNames.{Name, site_of}
 use Rattle.nix_lints.specs.declared.attributes.Attributes.{Attributes}
 use Rattle.nix_lints.specs.declared.definition.NameSite.{NameSite}
 
--- an attribute or a set, and a name of an attribute that it has
+-- an attribute or a set, and the name of an attribute in it
 abbrev pub Key : Type 0
 Key = ℕ × CowStr Global
 
--- first names of attributes
+-- the first name of each attribute
 abbrev pub FirstNames : Type 0
 FirstNames = BTreeMap Key NameSite
 
--- how a name of an attribute compares to a key
+-- the order of an attribute with a name and a key
 abbrev pub compare_key : ℕ → List ℕ → Key → Ordering
 compare_key home text key = ordering_then (nat_cmp home key.0) (slice_cmp nat_cmp text (cow_str_bytes key.1))
 
--- the attribute of what begins at an offset
+-- the attribute of the owner that begins at an offset
 abbrev pub attribute_by : BTreeMap ℕ ℕ → ℕ → ℕ
 attribute_by attributes start = unwrap_or (get nat_cmp attributes start) start
 
@@ -33,7 +33,7 @@ attribute_by attributes start = unwrap_or (get nat_cmp attributes start) start
 abbrev pub first_by : FirstNames → ℕ → List ℕ → Option NameSite
 first_by firsts home text = get_by (compare_key home text) firsts
 
--- the maps say what is known
+-- the maps contain what is known
 pub record IsTable (known : Known) (attributes : BTreeMap ℕ ℕ) (firsts : FirstNames) : Type 0 where
   pub attributes_are : (start : ℕ) → attribute_by attributes start ≡ known.attribute start
   pub firsts_are : (home : ℕ) (text : List ℕ) → option_map site_of (first_by firsts home text) ≡ known.first home text
@@ -44,7 +44,7 @@ pub record IsEmpty (new : Attributes) : Type 0 where
   pub firsts : new.firsts.entries ≡ []
   pub repeated : new.repeated.items ≡ []
 
--- names are added, and the repetitions among them
+-- names are added, together with the repetitions among them
 pub record AddsNames (old new : Attributes) (names : List Name) : Type 0 where
   pub table : (known : Known) → IsTable known old.attributes old.firsts → IsTable (with_names known names) new.attributes new.firsts
   pub repeated : (known : Known) → IsTable known old.attributes old.firsts →

@@ -1,4 +1,4 @@
--- The names that the entries of sets and of `let` define, one after the other.
+-- The names that the entries of sets and of `let` define, one after another.
 use Rattle.std.specs.Prelude.{ℕ, Bool, true, false, List, [], ◌∷◌, map, flat_map, Option, Some, None, is_some, option_map, if◌then◌else◌}
 use Rattle.std.specs.Cow.{cow_str_bytes}
 use Rattle.std.specs.Option.{unwrap_or}
@@ -14,9 +14,9 @@ use Rattle.rnix.specs.NodeKinds.{is_attr, is_expr}
 use Rattle.nix_lints.specs.declared.definition.Definition.{Definition}
 use Rattle.nix_lints.specs.declared.definition.NameSite.{NameSite}
 
--- where a name is written: where the set or the `let` begins that has its entry, or the name before it in its path, which is its owner; the owner of
--- the names inside its attribute: where the set begins that is its value, or else the name itself; whether it follows another name in its path; and
--- whether other entries may add names to its attribute, since its path continues or its value is a set
+-- where a name is written. Its owner is the name before it in its path, or else the set or `let` with its entry, given by where that begins. The owner of
+-- the names inside its attribute is the set that is its value, or else the name itself. The rest says whether it follows another name in its path, and
+-- whether other entries may add names to its attribute, because its path continues or its value is a set
 pub record Site : Type 0 where
   pub extent : Extent
   pub owner : ℕ
@@ -24,12 +24,12 @@ pub record Site : Type 0 where
   pub continues : Bool
   pub is_open : Bool
 
--- a name, if the text alone says what it is, where it is written
+-- a name, if the text alone determines it, and where it is written
 pub record Name : Type 0 where
   pub text : Option (List ℕ)
   pub site : Site
 
--- a place of the program
+-- a site of the program
 abbrev pub site_of : NameSite → Site
 site_of name_site = record {
   extent = bounds_of name_site.range;
@@ -39,7 +39,7 @@ site_of name_site = record {
   is_open = name_site.is_open;
 }
 
--- a name at a place
+-- a name at a site
 abbrev pub named : Option (List ℕ) → Site → Name
 named text site = record { text = text; site = site }
 
@@ -51,16 +51,16 @@ name_from definition = named (option_map cow_str_bytes definition.text) (site_of
 abbrev pub start_of : Located → ℕ
 start_of e = (extent_of e).start
 
--- the set that an expression is, perhaps in parentheses
+-- the set in an expression, possibly in parentheses
 abbrev pub set_of : Located → Option Located
 set_of e = if same_kind k.NODE_ATTR_SET (item_of (without_parens e)).kind then Some (without_parens e) else None
 
--- where the set begins that an expression is, if there is one
+-- where the set in an expression begins, if there is one
 abbrev pub value_start : Option Located → Option ℕ
 value_start None = None
 value_start (Some e) = option_map start_of (set_of e)
 
--- a node as a name; if other entries may add names to its attribute, with the owner of these
+-- a node as a name, with the owner of the names inside its attribute if other entries may add to it
 abbrev pub definition_at : ℕ → Bool → Option ℕ → Located → Name
 definition_at owner continues inner e = named (static_name e) record {
   extent = extent_of e;
@@ -74,23 +74,23 @@ definition_at owner continues inner e = named (static_name e) record {
 abbrev pub inherited_at : ℕ → Located → Name
 inherited_at owner e = definition_at owner false None e
 
--- the names of a path from one on; the value may be a set, which begins at an offset
+-- the names of a path; the value may be a set, which begins at an offset
 abbrev pub names_from : ℕ → Bool → Option ℕ → Located → List Located → List Name
 names_from owner continues set e [] = definition_at owner continues set e ∷ []
 names_from owner continues set e (next ∷ more) =
     definition_at owner continues (Some (start_of e)) e ∷ names_from (start_of e) true set next more
 
--- the names of a path
+-- the names of a path, given where the set that is its value begins
 abbrev pub names_of : ℕ → Option ℕ → List Located → List Name
 names_of owner set [] = []
 names_of owner set (e ∷ more) = names_from owner false set e more
 
--- the same of a path, if there is one
+-- the same, for a path that may be missing
 abbrev pub path_names : ℕ → Option ℕ → Option Located → List Name
 path_names owner set None = []
 path_names owner set (Some path) = names_of owner set (nodes_of is_attr path)
 
--- the names of a node in a set or a `let`, if it is an entry of it
+-- the names that a node in a set or a `let` defines, if it is an entry
 abbrev pub names_below : Option Located → Located → List Name
 names_below None e = []
 names_below (Some set) e =
@@ -99,7 +99,7 @@ names_below (Some set) e =
     then path_names (start_of set) (value_start (child_of is_expr 0 e)) (child_of (same_kind k.NODE_ATTRPATH) 0 e)
     else [])
 
--- the names of a node, if it is an entry
+-- the names that a node defines, if it is an entry
 abbrev pub names_at : Located → List Name
 names_at e = names_below (parent_of e) e
 

@@ -1,4 +1,4 @@
--- Which names define an attribute again that Nix takes no second definition of.
+-- Which names define an attribute again although Nix allows no second definition of it.
 use Rattle.std.specs.Prelude.{ℕ, ◌==◌, ◌&&◌, ◌||◌, Bool, true, false, List, [], ◌∷◌, ◌++◌, Option, Some, None, if◌then◌else◌}
 use Rattle.std.specs.Option.{option_or}
 use Rattle.std.specs.Str.{bytes_eq}
@@ -7,8 +7,8 @@ use Rattle.rnix_green.specs.Tree.{Located}
 use Rattle.nix_lints.specs.DefinedNames.{Site, Name, names_in}
 use Rattle.nix_lints.specs.declared.repeated.Repeated.{Repeated}
 
--- what some names define. A set is known by where it begins, and an attribute by the owner of the names inside the first name that defines it. Each
--- owner has an attribute, if only itself; and an attribute that an attribute has by this name has a first name
+-- what some names define. A set is identified by where it begins, and an attribute by the owner of the names inside the first name that defines it. Each
+-- owner has an attribute, possibly only itself; and each attribute may have a first name
 pub record Known : Type 0 where
   pub attribute : ℕ → ℕ
   pub first : ℕ → List ℕ → Option Site
@@ -22,25 +22,25 @@ abbrev pub earlier_by : Known → ℕ → Option (List ℕ) → Option Site
 earlier_by known owner None = None
 earlier_by known owner (Some text) = known.first (known.attribute owner) text
 
--- the same of a name with its site
+-- the same, for a name with its site
 abbrev pub earlier : Known → Name → Option Site
 earlier known own = earlier_by known own.site.owner own.text
 
--- whether a name is this
+-- whether a name is known and is this one
 abbrev pub is_called : Option (List ℕ) → List ℕ → Bool
 is_called None text = false
 is_called (Some own) text = bytes_eq own text
 
--- whether a name defines the attribute that an attribute has by this name
+-- whether a name defines the attribute with this name inside an attribute or a set
 abbrev pub defines : Known → Name → ℕ → List ℕ → Bool
 defines known own home text = (known.attribute own.site.owner == home) && is_called own.text text
 
--- the attribute of an owner: that of the first name
+-- the attribute of an owner: that of the first name, or else a given one
 abbrev pub attribute_from : ℕ → Option Site → ℕ
 attribute_from attribute None = attribute
 attribute_from attribute (Some first) = first.inner
 
--- one more name: the names inside it are those of the attribute that the first name defines; where there is none, its own
+-- one more name: the names inside it belong to the attribute that the first name defines, or if there is no first name, to its own
 abbrev pub with_name : Known → Name → Known
 with_name known own = record {
   attribute = λ owner. if own.site.is_open && (own.site.inner == owner) then attribute_from (known.attribute owner) (earlier known own)
@@ -48,13 +48,13 @@ with_name known own = record {
   first = λ home text. option_or (known.first home text) (if defines known own home text then Some own.site else None);
 }
 
--- more names, one after the other
+-- more names, one after another
 abbrev pub with_names : Known → List Name → Known
 with_names known [] = known
 with_names known (own ∷ more) = with_names (with_name known own) more
 
--- whether a name adds to the attribute that another name defines first: both leave it open, and either it continues a path, or both are
--- in the same set, since a whole set as a value brings new attributes alone
+-- whether a name adds to the attribute that another name defines first: both leave the attribute open, and either the name continues a path, or both are
+-- in the same set, since a whole set as a value adds only new attributes
 abbrev pub extends : Site → Site → Bool
 extends first own = first.is_open && (own.is_open && (own.continues || (first.owner == own.owner)))
 
@@ -62,16 +62,16 @@ extends first own = first.is_open && (own.is_open && (own.continues || (first.ow
 abbrev pub Repetition : Type 0
 Repetition = Extent × Extent
 
--- a repetition of the program
+-- a repetition in the program
 abbrev pub repetition_of : Repeated → Repetition
 repetition_of found = (bounds_of found.range, bounds_of found.first)
 
--- the repetition that a name is, where the first name of its attribute is this one, if there is one
+-- the repetition that a name is, given the first name of its attribute, if there is one
 abbrev pub repetition : Option Site → Site → List Repetition
 repetition None own = []
 repetition (Some first) own = if extends first own then [] else (own.extent, first.extent) ∷ []
 
--- the repetitions among names that come after others
+-- the repetitions among names that follow others
 abbrev pub repetitions_after : Known → List Name → List Repetition
 repetitions_after known [] = []
 repetitions_after known (own ∷ more) = repetition (earlier known own) own.site ++ repetitions_after (with_name known own) more

@@ -1,4 +1,4 @@
-//! The names that the entries of a text define, one after the other.
+//! The names that the entries of a text define, one after another.
 
 ghost use Rattle.std.specs.Prelude.{◌≡◌, ◌∷◌, [], Some, map, option_map, IfOk, IfSome, OnOk};
 ghost use Rattle.std.specs.Cow.{cow_str_bytes};
@@ -25,7 +25,7 @@ fn start_of(node: &SyntaxNode<'_>) -> usize
     node.text_range().start()
 }
 
-// Returns the set that an expression is, perhaps in parentheses.
+// Returns the set in an expression, possibly in parentheses.
 fn set_of<'t>(expr: &SyntaxNode<'t>) -> Option<SyntaxNode<'t>>
     ensures { result ≡ set_of expr.now }
 {

@@ -1,32 +1,32 @@
--- Changes of places of a text, one after the other.
+-- Changes to ranges of a text, one after another.
 use Rattle.std.proofs.{Common.{◌≡◌, ℕ, ◌≤◌, ◌<◌, suc, List, [], ◌∷◌, ◌++◌, length, get_or, take, map, Some, inl, inr, refl, ap, sym, subst, ◌∙◌, arith}, lemmas.{List.{map-append, get_or-map, get_or-take, length-map, length-take-le, Elements.{All-push, Contains-append_right}}, Option.slice_get-get_or}}
 use Rattle.std.{proofs.lemmas.List.Sorted.{IsPermutation-sym, IsPermutation-middle, IsPermutation-push_more, Contains-permutation}, specs.{Prelude.◌⊎◌, List.{All, Contains}}}
 use Rattle.{std.specs.List.Sorted.IsPermutation, rnix_green.specs.Range.Extent, rnix_text.specs.Changes.{Change, Draft, AreAscending, IsAdded, HasOverlap}}
 use Rattle.nix_rename.specs.Changed.{ContainsAt, change_at, LacksAt, DoOverlap, IsUnchangeable}
 
--- the rest of a list of which something holds
+-- what holds for all of a list holds for the rest
 rest_all : (P : Change → Type 0) (c : Change) (cs : List Change) → All P (c ∷ cs) → All P cs
 rest_all P c cs all k d less = all (suc k) d (omega (arith, less))
 
--- changes ascend also from the end of one in front of which none of them begins
+-- changes that do not begin before the end of another one ascend from that end
 from_end : (n : ℕ) (c : Change) (cs : List Change) → AreAscending n cs → All (λ x. (c.start < x.end) × (c.end ≤ x.start)) cs → AreAscending c.end cs
 from_end n c [] h all = tt
 from_end n c (x ∷ xs) h all = ((all 0 x (omega arith)).1, h.1, h.2)
 
--- a change is put among others, which ascend with it
+-- a change is put among others, and all ascend
 put_among : (n : ℕ) (c : Change) (front back : List Change) → AreAscending n (front ++ back) → n ≤ c.start → c.start ≤ c.end →
     All (λ x. x.end ≤ c.start) front → All (λ x. (c.start < x.end) × (c.end ≤ x.start)) back → AreAscending n (front ++ c ∷ back)
 put_among n c [] back h low order before behind = (low, order, from_end n c back h behind)
 put_among n c (f ∷ front) back h low order before behind =
     (h.0, h.1, put_among f.end c front back h.2 (before 0 f (omega arith)) order (rest_all (λ x. x.end ≤ c.start) f front before) behind)
 
--- an added change is one of those that ascend
+-- the changes ascend after one is added
 added_ascend : (c : Change) (old new : List Change) → AreAscending 0 old → c.start ≤ c.end → IsAdded c old new → AreAscending 0 new
 added_ascend c old new h order added =
     subst (AreAscending 0) (sym added.new_is)
     (put_among 0 c added.front added.back (subst (AreAscending 0) added.old_is h) (omega arith) order added.before added.after)
 
--- a change that is added is one more of those that are there
+-- an added change is one more besides the earlier ones
 added_more : (c : Change) (xs old new : List Change) → IsPermutation xs old → IsAdded c old new → IsPermutation (xs ++ c ∷ []) new
 added_more c xs old new same added =
     IsPermutation-push_more xs old new c same
@@ -34,14 +34,14 @@ added_more c xs old new same added =
     (subst (λ cs. IsPermutation (c ∷ (added.front ++ added.back)) cs) (sym added.new_is)
     (IsPermutation-sym _ _ (IsPermutation-middle added.front c added.back))))
 
--- the changes of a draft are those of these places, at each of which its text contains the old name
+-- the changes of a draft are those of these ranges, and its text contains the old name in each of them
 pub record IsDraftOf (text : List ℕ) (occurrences : List Extent) (old new : List ℕ) (draft : Draft) : Type 0 where
   pub text_is : draft.text ≡ text
   pub exactly : IsPermutation (map (change_at new) occurrences) draft.changes
   pub ascending : AreAscending 0 draft.changes
   pub each_old : All (ContainsAt text old) occurrences
 
--- the changes of one place more
+-- the change of one more range
 pub draft_more : (text : List ℕ) (occurrences more : List Extent) (occurrence : Extent) (old new : List ℕ) (before after : Draft) →
     IsDraftOf text occurrences old new before → more ≡ occurrences ++ occurrence ∷ [] → occurrence.start ≤ occurrence.end
     → ContainsAt before.text old occurrence →
@@ -55,12 +55,12 @@ draft_more text occurrences more occurrence old new before after is more_is orde
       each_old = All-push (ContainsAt text old) occurrences occurrence is.each_old (subst (λ t. ContainsAt t old occurrence) is.text_is contains);
     })
 
--- a change is one of those among which it is
+-- a change in the middle of a list is contained in it
 overlap_contained : (cs front back : List Change) (c : Change) → cs ≡ front ++ c ∷ back → Contains cs c
 overlap_contained cs front back c is =
     subst (λ xs. Contains xs c) (sym is) (Contains-append_right front (c ∷ back) c (0, omega arith, refl))
 
--- a place overlaps one of those before it
+-- a range overlaps an earlier one
 overlap_before : (occurrences so_far : List Extent) (occurrence : Extent) (new : List ℕ) (i : ℕ) (cs : List Change) → so_far ≡ take i occurrences →
     i < length occurrences → get_or occurrences i occurrence ≡ occurrence → IsPermutation (map (change_at new) so_far) cs
     → HasOverlap occurrence.start occurrence.end cs → DoOverlap occurrences
@@ -89,7 +89,7 @@ overlap_before occurrences so_far occurrence new i cs so_far_is there occurrence
       );
     }
 
--- a place at which the text does not contain the old name, or which overlaps one of the places before it
+-- a range in which the text does not contain the old name, or which overlaps an earlier one
 pub unchangeable_found : (text : List ℕ) (occurrences so_far : List Extent) (occurrence : Extent) (old new : List ℕ) (i : ℕ) (draft : Draft)
     → so_far ≡ take i occurrences →
     i < length occurrences → get_or occurrences i occurrence ≡ occurrence → IsDraftOf text so_far old new draft →

@@ -1,4 +1,4 @@
--- What was tested of a text that was read.
+-- What tests say about a text that was parsed.
 use Rattle.std.proofs.Common.{◌≡◌, List, ℕ, [], ◌∷◌, length, map, Bool, true, false, Option, Some, Result, Ok, Err, sym, ◌∙◌, ap, refl, arith, ◌==◌}
 use Rattle.std.{proofs.lemmas.{List.length-map, Bool.{false≢true, Decides.nat_tests}}, specs.{Prelude.{◌&&◌, IfOk}, Bool.MatchBool}}
 use Rattle.{std.specs.declared.alloc.AllocError.AllocError, rnix_green.specs.Tree.{Located, extent_of}, nix_scopes.specs.declared.resolution.Binding.Binding}
@@ -26,14 +26,14 @@ module _ {X Y : Type 0} (f : X → Y) (errors : List X) (faults : List Y) (liste
   no_errors : faults ≡ [] → length errors ≡ 0
   no_errors none = sym (length-map errors f) ∙ ap length (listed ∙ none)
 
-  -- a test, and whether there are no errors
+  -- a test, together with whether there are no errors
   pub both_tested : {P : Type 0} (a b : Bool) → (a ≡ true → P) → (P → a ≡ true) → b ≡ (length errors == 0) →
       MatchBool (a && b) ((faults ≡ []) × P) (¬ ((faults ≡ []) × P))
   both_tested true true holds tests is = (no_faults (zero_of (length errors) (sym is)), holds refl)
   both_tested true false holds tests is = λ both. false≢true (is ∙ ap (λ n. n == 0) (no_errors both.0))
   both_tested false b holds tests is = λ both. false≢true (tests both.1)
 
--- what was tested of a text that was read
+-- what tests say about a text that was parsed
 module _ (text : List ℕ) (read : Reading) (is_read : IsRead text read) where
   pub name_tested : (passes : Bool) → MatchBool passes (IsNameIn read text) (¬ IsNameIn read text) → MatchBool passes (IsName text) (IsNoName text)
   name_tested true is_name = record { read = read; is_read = is_read; is_name = is_name }
@@ -54,7 +54,7 @@ pub referent : (root name : Located) (offset : ℕ) (names : Resolution) (bindin
 referent root name offset names binding found at_offset is_binding =
     record { found = found; name = name; at_offset = at_offset; is_binding = is_binding }
 
--- what comes of giving the binding of a name another name is what comes of renaming the name
+-- the result of renaming the binding of a name is the result of renaming the name
 module _ (text : List ℕ) (root : Located) (offset : ℕ) (new : List ℕ) (names : Resolution) (binding : Binding) where
   pub renamed_from : (result : Result Renaming AllocError) → IsName new → is_special_name new ≡ false → IsReferent root offset names (Some binding) →
       IfOk result (IfRenamed (IsNamed text names binding new)) → IfOk result (IfRenamed (IsRenamed text root offset new))

@@ -1,19 +1,19 @@
--- A text that has another name at each of some places.
+-- A text with another name in some ranges.
 use Rattle.std.specs.Prelude.{◌≡◌, ◌⊎◌, ℕ, ◌<◌, ◌≤◌, Bool, true, false, List, length, map, Some, slice_get, slice_range}
 use Rattle.std.specs.List.{All, Contains}
 use Rattle.std.specs.List.Sorted.{IsPermutation}
 use Rattle.rnix_green.specs.Range.{Extent}
 use Rattle.rnix_text.specs.Changes.{Change, Draft, AreAscending, IsAdded, IsBetween, HasOverlap, changed_from, replacing}
 
--- the text contains a name at a place
+-- the text contains a name in a range
 abbrev pub ContainsAt : List ℕ → List ℕ → Extent → Type 0
 ContainsAt text name occurrence = (occurrence.end ≤ length text) × (slice_range text occurrence.start occurrence.end ≡ name)
 
--- the change of a place into a new name
+-- the change that replaces a range by the new name
 abbrev pub change_at : List ℕ → Extent → Change
 change_at new occurrence = replacing occurrence.start occurrence.end new
 
--- the text with a new name in place of the old one at exactly these places, and all else as it was
+-- the text with the new name in place of the old one in exactly these ranges, and everything else unchanged
 pub record IsChanged (text : List ℕ) (occurrences : List Extent) (old new made : List ℕ) : Type 0 where
   pub changes : List Change
   pub exactly : IsPermutation (map (change_at new) occurrences) changes
@@ -21,17 +21,17 @@ pub record IsChanged (text : List ℕ) (occurrences : List Extent) (old new made
   pub each_old : All (ContainsAt text old) occurrences
   pub made_is : made ≡ changed_from 0 changes text
 
--- the text does not contain the name at the place, between characters
+-- the text does not contain the name in the range, or the range does not begin and end between characters
 abbrev pub LacksAt : List ℕ → List ℕ → Extent → Type 0
 LacksAt text name occurrence = ¬ (IsBetween text occurrence.start occurrence.end × ContainsAt text name occurrence)
 
--- the text does not contain the name at one of these places
+-- the text does not contain the name in one of these ranges
 pub record IsMissing (text : List ℕ) (occurrences : List Extent) (name : List ℕ) : Type 0 where
   pub occurrence : Extent
   pub is_one : Contains occurrences occurrence
   pub lacking : LacksAt text name occurrence
 
--- two of these places overlap
+-- two of these ranges overlap
 pub record DoOverlap (occurrences : List Extent) : Type 0 where
   pub first : ℕ
   pub second : ℕ
@@ -42,11 +42,11 @@ pub record DoOverlap (occurrences : List Extent) : Type 0 where
   pub second_is : slice_get occurrences second ≡ Some other
   pub overlap : (occurrence.start < other.end) × (other.start < occurrence.end)
 
--- the text does not contain the old name at each of these places, or two of them overlap
+-- the text does not contain the old name in each of these ranges, or two of them overlap
 abbrev pub IsUnchangeable : List ℕ → List Extent → List ℕ → Type 0
 IsUnchangeable text occurrences old = IsMissing text occurrences old ⊎ DoOverlap occurrences
 
--- the change of a place was added to a draft, or its text does not contain the old name there, or the place overlaps one that it changes
+-- the change of a range is added to a draft, or the text does not contain the old name there, or the range overlaps one that is changed
 abbrev pub IsOccurrenceTested : Extent → List ℕ → List ℕ → Draft → Draft → Bool → Type 0
 IsOccurrenceTested occurrence old new before after true = ContainsAt before.text old occurrence
     × IsAdded (change_at new occurrence) before.changes after.changes

@@ -1,4 +1,4 @@
--- How a refusal is printed, and why the binding of a number keeps its name.
+-- How a refusal is printed, and why the binding with a number keeps its name.
 use Rattle.std.specs.Prelude.{◌&&◌, ℕ, nat_eq, Bool, not, List, [], ◌∷◌, Option, Some, None, codes, if◌then◌else◌}
 use Rattle.std.specs.List.{list_any}
 use Rattle.std.specs.Option.{option_or}
@@ -25,7 +25,7 @@ abbrev pub special_names : List (List ℕ)
 special_names =
     codes "__sub" ∷ codes "__mul" ∷ codes "__div" ∷ codes "__lessThan" ∷ codes "__findFile" ∷ codes "__nixPath" ∷ codes "__overrides" ∷ []
 
--- whether a name is one of them
+-- whether a name is one of these
 abbrev pub is_special_name : List ℕ → Bool
 is_special_name text = list_any (bytes_eq text) special_names
 
@@ -49,7 +49,7 @@ refusal_text (refusal.Obstacle reason) = obstacle_text reason
 refusal_text refusal.OtherSpelling = codes "the name is written in another way at some place"
 refusal_text refusal.ChangedMeaning = codes "with the new name, some name would refer to something else"
 
--- why a part of a binding keeps its name, if it does, where the parent of its node is of this kind
+-- why a part of a binding keeps its name, if it does, given the kind of its node's parent
 abbrev pub obstacle_in : SyntaxKind → Bound → Option Obstacle
 obstacle_in parent part =
     if same_kind parent k.NODE_INHERIT then Some obstacle.Inherited
@@ -60,25 +60,25 @@ obstacle_in parent part =
     else (if is_special_name part.text then Some obstacle.Special
     else None)))))
 
--- the same, where it has a parent
+-- the same, for a parent that may be missing
 abbrev pub obstacle_below : Option Located → Bound → Option Obstacle
 obstacle_below None part = None
 obstacle_below (Some parent) part = obstacle_in (item_of parent).kind part
 
--- the same, if it is a part of the binding of the number
+-- the same, if it is a part of the binding with the number
 abbrev pub obstacle_of_part : ℕ → Binding → Option Obstacle
 obstacle_of_part number part = if nat_eq part.first number then obstacle_below (parent_of part.node) (bound_of part) else None
 
--- why the first of these parts of the binding of a number keeps its name that does
+-- why a part of the binding with a number keeps its name, for the first of these parts that does
 abbrev pub obstacle_among : ℕ → List Binding → Option Obstacle
 obstacle_among number [] = None
 obstacle_among number (part ∷ parts) = option_or (obstacle_of_part number part) (obstacle_among number parts)
 
--- whether a reference inherits the binding of a number
+-- whether a reference inherits the binding with a number
 abbrev pub inherits : ℕ → Reference → Bool
 inherits number reference = reference.is_inherited && is_number number reference.binding
 
--- why the binding of a number keeps its name, if it does
+-- why the binding with a number keeps its name, if it does
 abbrev pub obstacle_of_binding : ℕ → Resolution → Option Obstacle
 obstacle_of_binding number names =
     option_or (obstacle_among number (bindings_of names)) (if list_any (inherits number) (references_of names) then Some obstacle.InheritedBySet else None)

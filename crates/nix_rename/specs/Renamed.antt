@@ -25,16 +25,16 @@ use Rattle.nix_rename.specs.Changed.{IsChanged, IsUnchangeable}
 abbrev pub IsRead : List ℕ → Reading → Type 0
 IsRead text read = IsParsed (tokens_of text) read.tree read.faults
 
--- whether a node is a name, and the whole of a text
+-- whether a node is a name and the whole text
 abbrev pub is_whole_name : Located → List ℕ → Bool
 is_whole_name e text = same_kind (item_of e).kind k.NODE_IDENT && bytes_eq (text_at e) text
 
--- whether there is a node, and it is a name and the whole of a text
+-- whether a node exists, and is a name and the whole text
 abbrev pub is_name_whole : Option Located → List ℕ → Bool
 is_name_whole None text = false
 is_name_whole (Some e) text = is_whole_name e text
 
--- a text that is read so is a name and nothing else
+-- a text with this reading is a name and nothing else
 abbrev pub IsNameIn : Reading → List ℕ → Type 0
 IsNameIn read text = (read.faults ≡ []) × (is_name_whole (child_of is_expr 0 (root_of read)) text ≡ true)
 
@@ -44,17 +44,17 @@ pub record IsName (text : List ℕ) : Type 0 where
   pub is_read : IsRead text read
   pub is_name : IsNameIn read text
 
--- a text is no name, or not only one
+-- a text is not a single name
 pub record IsNoName (text : List ℕ) : Type 0 where
   pub read : Reading
   pub is_read : IsRead text read
   pub is_none : ¬ IsNameIn read text
 
--- the bindings and references of a text are these, one for one, at the corresponding places, with a new name for the binding
+-- the bindings and references of a text are these, one for one, at the corresponding offsets, with a new name for the binding
 abbrev pub AreThese : Resolution → Binding → List ℕ → Resolution → Type 0
 AreThese names binding new others = AreAlike (rename_in names binding.first (length (cow_str_bytes binding.text)) new) names others
 
--- a text is read without errors, and has the same bindings and references as these names
+-- a text is parsed without errors, and has the same bindings and references
 pub record ResolvesTheSame (names : Resolution) (binding : Binding) (new text : List ℕ) : Type 0 where
   pub read : Reading
   pub is_read : IsRead text read
@@ -63,7 +63,7 @@ pub record ResolvesTheSame (names : Resolution) (binding : Binding) (new text : 
   pub found : IsResolution (root_of read) others
   pub alike : AreThese names binding new others
 
--- a text is read with errors, or has other bindings or references than these names
+-- a text is parsed with errors, or has other bindings or references
 pub record ResolvesDifferently (names : Resolution) (binding : Binding) (new text : List ℕ) : Type 0 where
   pub read : Reading
   pub is_read : IsRead text read
@@ -71,33 +71,33 @@ pub record ResolvesDifferently (names : Resolution) (binding : Binding) (new tex
   pub found : IsResolution (root_of read) others
   pub different : ¬ ((read.faults ≡ []) × AreThese names binding new others)
 
--- the text in which a binding that may be renamed has a new name at exactly its occurrences, and which, read again, resolves as before
+-- the text with a new name for a binding that may be renamed, at exactly its occurrences; parsed again, it resolves as before
 pub record IsNamed (text : List ℕ) (names : Resolution) (binding : Binding) (new made : List ℕ) : Type 0 where
   pub free : obstacle_of_binding binding.first names ≡ None
   pub changed : IsChanged text (occurrences_of binding.first names) (cow_str_bytes binding.text) new made
   pub alike : ResolvesTheSame names binding new made
 
--- the text in which a binding has a new name has errors, or does not resolve as before
+-- the text with a new name for a binding has errors, or does not resolve as before
 pub record IsDifferent (text : List ℕ) (names : Resolution) (binding : Binding) (new : List ℕ) : Type 0 where
   pub made : List ℕ
   pub changed : IsChanged text (occurrences_of binding.first names) (cow_str_bytes binding.text) new made
   pub different : ResolvesDifferently names binding new made
 
--- why a binding gets no new name
+-- why a binding is not renamed
 abbrev pub IsReason : Refusal → List ℕ → Resolution → Binding → List ℕ → Type 0
 IsReason (refusal.Obstacle obstacle) text names binding new = obstacle_of_binding binding.first names ≡ Some obstacle
 IsReason refusal.OtherSpelling text names binding new = IsUnchangeable text (occurrences_of binding.first names) (cow_str_bytes binding.text)
 IsReason refusal.ChangedMeaning text names binding new = IsDifferent text names binding new
 IsReason _ text names binding new = ⊥
 
--- what the name at an offset refers to is this binding, if there is one
+-- the binding to which the name at an offset refers is this one, if there is one
 pub record IsReferent (root : Located) (offset : ℕ) (names : Resolution) (binding : Option Binding) : Type 0 where
   pub found : IsResolution root names
   pub name : Located
   pub at_offset : IsNameAt root offset (Some name)
   pub is_binding : binding_at names (extent_of name) ≡ binding
 
--- the text in which the binding of the name at an offset has a new name
+-- the text with a new name for the binding of the name at an offset
 pub record IsRenamed (text : List ℕ) (root : Located) (offset : ℕ) (new made : List ℕ) : Type 0 where
   pub is_name : IsName new
   pub is_written : is_special_name new ≡ false
@@ -106,7 +106,7 @@ pub record IsRenamed (text : List ℕ) (root : Located) (offset : ℕ) (new made
   pub referent : IsReferent root offset names (Some binding)
   pub named : IsNamed text names binding new made
 
--- why the binding of the name at an offset gets no new name
+-- why the binding of the name at an offset is not renamed
 pub record IsNotRenamed (refusal : Refusal) (text : List ℕ) (root : Located) (offset : ℕ) (new : List ℕ) : Type 0 where
   pub names : Resolution
   pub binding : Binding
@@ -123,12 +123,12 @@ IsCause (refusal.Obstacle obstacle) text root offset new = IsNotRenamed (refusal
 IsCause refusal.OtherSpelling text root offset new = IsNotRenamed refusal.OtherSpelling text root offset new
 IsCause refusal.ChangedMeaning text root offset new = IsNotRenamed refusal.ChangedMeaning text root offset new
 
--- P holds of the new text, if there is one
+-- P holds for the new text, if there is one
 abbrev pub IfRenamed : (List ℕ → Type 0) → Renaming → Type 0
 IfRenamed P (renaming.Renamed made) = P (string_bytes made)
 IfRenamed P (renaming.Refused refusal) = Unit {0}
 
--- P holds of the refusal, if there is one
+-- P holds for the refusal, if there is one
 abbrev pub IfRefused : (Refusal → Type 0) → Renaming → Type 0
 IfRefused P (renaming.Renamed made) = Unit {0}
 IfRefused P (renaming.Refused refusal) = P refusal

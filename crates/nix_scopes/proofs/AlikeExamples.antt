@@ -1,4 +1,4 @@
--- The binding and the reference of `let x=1;in x` (without spaces) in which x is named yy, by computation.
+-- The binding and the reference of `let x=1;in x` (without spaces) when x is renamed to yy; by computation.
 use Rattle.{std.proofs.Common.{◌≡◌, List, ℕ, [], ◌∷◌, length, Option, Some, None, false, refl, ap, arith, codes}, rnix_green.specs.Forest.{Forest, empty, leaf}}
 use Rattle.{rnix_green.specs.{Forest.node, Tree.Tree}, nix_scopes.specs.{declared.resolution.{Binding.Binding, Reference.Reference}, Alike.{Rename, ended_by}}}
 use Rattle.std.specs.declared.borrow.CowStr.TheVariants.{Borrowed}
@@ -9,7 +9,7 @@ use Rattle.rnix_kinds.specs.declared.kinds.SyntaxKind.TheVariants as k
 abbrev name : List ℕ → Forest
 name text = node k.NODE_IDENT (leaf k.TOKEN_IDENT text empty) empty
 
--- a `let` of one name, and the name in its body
+-- a `let` that binds one name, with a name as its body
 abbrev let_in : List ℕ → List ℕ → Tree
 let_in bound used =
     record {
@@ -20,7 +20,7 @@ let_in bound used =
           (leaf k.TOKEN_IN (codes "in") (name used)))) empty;
     }
 
--- what the `let` binds, and what the name in its body refers to
+-- the binding of the `let`, and the reference in its body
 abbrev binding : List ℕ → List ℕ → Binding
 binding bound used =
     record {
@@ -40,18 +40,18 @@ reference bound used target =
       is_open = false;
     }
 
--- the new name of x, which ends at 4 and at 10
+-- the new name of x, whose occurrences end at 4 and at 10
 abbrev rename : Rename
 rename = record { number = 0; name = codes "yy"; old = 1; ended = ended_by (4 ∷ 10 ∷ []) }
 
--- the binding and the reference with the new name are the same ones
+-- with the new name, the binding and the reference are the same ones
 bound : IsBoundAlike rename (binding (codes "x") (codes "x")) (binding (codes "yy") (codes "yy"))
 bound = record { text = refl; first = refl; node = (refl, refl); scope = (refl, refl) }
 
 refers : RefersAlike rename (reference (codes "x") (codes "x") (Some 0)) (reference (codes "yy") (codes "yy") (Some 0))
 refers = record { text = refl; binding = refl; is_inherited = refl; is_open = refl; node = (refl, refl) }
 
--- where only the binding has the new name, the reference is another one, whatever it refers to
+-- if only the binding gets the new name, the reference is another one, whatever it refers to
 left_out : (target : Option ℕ) → ¬ RefersAlike rename (reference (codes "x") (codes "x") (Some 0)) (reference (codes "yy") (codes "x") target)
 left_out target same = absurd (omega (arith, ap length same.text))
 

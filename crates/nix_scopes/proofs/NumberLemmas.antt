@@ -11,26 +11,26 @@ use Rattle.std.specs.BTreeMap.{get_by}
 use Rattle.nix_scopes.specs.NameTexts.{name_bytes}
 use Rattle.nix_scopes.specs.declared.name_text.NameText.TheVariants.{Borrowed}
 
--- nothing after a number
+-- `None` as the alternative changes nothing
 pub or_none : (o : Option ℕ) → option_or o None ≡ o
 or_none None = refl
 or_none (Some n) = refl
 
--- a name is given a number
+-- assigning a number to a name, as `cond` and as `if`
 pub assigned_once : (b : Bool) (number old new : Option ℕ) → new ≡ cond b number old → new ≡ (if b then number else old)
 assigned_once true number old new is = is
 assigned_once false number old new is = is
 
--- a name that is given a number twice has the second
+-- a name that is assigned two numbers has the second
 pub assigned_twice : (b : Bool) (first second old new once : Option ℕ) → new ≡ cond b second once → once ≡ cond b first old → new ≡ (if b then second else old)
 assigned_twice true first second old new once is was = is
 assigned_twice false first second old new once is was = is ∙ was
 
--- a key of a name
+-- a key with the given name
 abbrev pub key_with : List ℕ → Key
 key_with text = (fingerprint_of text, Borrowed record { ref_ptr = (0, 0); now = text })
 
--- keys are the same where their names are
+-- two keys are equal exactly if their names are
 same_key : (a b : List ℕ) → is_eq (compare_key a (key_with b)) ≡ bytes_eq a b
 same_key a b =
     sym (tied_then (nat_cmp (fingerprint_of a) (fingerprint_of b)) (slice_cmp nat_cmp a b))
@@ -42,11 +42,11 @@ same_key a b =
         let marks : fingerprint_of a ≡ fingerprint_of b = ap fingerprint_of ((bytes_eq-Decides a b).0 is) in
         ap (λ e. e && true) (unsigned_tied (fingerprint_of a) (fingerprint_of b) ∙ is_same (fingerprint_of a) (fingerprint_of b) marks)
 
--- how two keys are ordered
+-- the order of two keys
 abbrev compare_keys : Key → Key → Ordering
 compare_keys a b = ordering_then (nat_cmp a.0 b.0) (slice_cmp nat_cmp (name_bytes a.1) (name_bytes b.1))
 
--- one name gets another number, or loses its own
+-- updating a key changes the number of its name and of no other
 pub key_updated : (key : Key) (text : List ℕ) (number : Option ℕ) (old new : Key → Option ℕ) → IsKeyOf text key →
     ((query : Key) → new query ≡ cond (is_eq (compare_keys key query)) number (old query)) → (other : List ℕ) →
     new (key_with other) ≡ cond (bytes_eq text other) number (old (key_with other))
@@ -57,13 +57,13 @@ key_updated key text number old new is updates other =
     ∙ ap (λ bytes. cond (is_eq (ordering_then (nat_cmp (fingerprint_of text) (fingerprint_of other)) (slice_cmp nat_cmp bytes other))) number was) is.1
     ∙ ap (λ e. cond e number was) (same_key text other)
 
--- the number at such a key is that of the name
+-- the number stored at a key of a name is the name's number
 pub number_at : (numbers : Numbers) (key : Key) (text : List ℕ) → IsKeyOf text key → get_by (compare_keys key) numbers ≡ number_by numbers text
 number_at numbers key text is =
     ap (λ fingerprint. get_by (λ (k : Key). ordering_then (nat_cmp fingerprint k.0) (slice_cmp nat_cmp (name_bytes key.1) (name_bytes k.1))) numbers) is.0
     ∙ ap (λ bytes. get_by (λ (k : Key). ordering_then (nat_cmp (fingerprint_of text) k.0) (slice_cmp nat_cmp bytes (name_bytes k.1))) numbers) is.1
 
--- the first place in one list and then in another
+-- the first position in a concatenation is that in the first list, or else that in the second
 position-append : {X : Type 0} (p : X → Bool) (i j : ℕ) (xs ys : List X) → j ≡ i + length xs →
     position_from p i (xs ++ ys) ≡ option_or (position_from p i xs) (position_from p j ys)
 position-append p i j [] ys is = (let same : i ≡ j = omega (arith, is) in ap (λ k. position_from p k ys) same)
@@ -73,14 +73,14 @@ position-append p i j (x ∷ xs) ys is = chosen (p x) _ _ _ (position-append p (
     chosen true a c d e = refl
     chosen false a c d e = e
 
--- there is no place of what is not there
+-- if no element passes, there is no position
 position_none : {X : Type 0} (p : X → Bool) (i : ℕ) (xs : List X) → All (λ x. p x ≡ false) xs → position_from p i xs ≡ None
 position_none p i [] all = refl
 position_none p i (x ∷ xs) all =
     cond-false (p x) (Some i) (position_from p (i + 1) xs) (All-head (λ x. p x ≡ false) x xs all)
     ∙ position_none p (i + 1) xs (All-tail (λ x. p x ≡ false) x xs all)
 
--- what is bound in scopes of lower numbers is not bound in this one
+-- a scope binds no name yet if all bindings belong to scopes with lower numbers
 pub none_below : (bindings : List Bound) (text : List ℕ) (scope : Located) → All (λ (b : Bound). b.scope.number < scope.number) bindings →
     number_in bindings text scope ≡ None
 none_below bindings text scope all =
@@ -89,7 +89,7 @@ none_below bindings text scope all =
     lower : (a b : ℕ) → a < b → (a == b) ≡ false
     lower a b l = grind (arith, nat_tests)
 
--- bindings of scopes of higher numbers are added
+-- adding bindings of scopes with higher numbers does not change a name's number
 pub number_kept : (bindings more : List Bound) (text : List ℕ) (scope : Located) → All (λ (b : Bound). scope.number < b.scope.number) more →
     number_in (bindings ++ more) text scope ≡ number_in bindings text scope
 number_kept bindings more text scope all =
@@ -98,7 +98,7 @@ number_kept bindings more text scope all =
     (position_none (binds scope text) (length bindings) more (λ k d l. and_left _ _ (is_above _ _ (all k d l))))
     ∙ or_none (number_in bindings text scope)
 
--- a binding of the scope is added
+-- adding a binding of the scope gives its name a number, if the name has none yet
 pub number_bound : (bindings : List Bound) (text : List ℕ) (scope : Located) (b : Bound) → b.scope.number ≡ scope.number →
     number_in (bindings ++ b ∷ []) text scope ≡ option_or (number_in bindings text scope) (if bytes_eq b.text text then Some (length bindings) else None)
 number_bound bindings text scope b same =
@@ -111,29 +111,29 @@ number_bound bindings text scope b same =
     chosen true = refl
     chosen false = refl
 
--- a number stays that a name has
+-- adding bindings does not change a number that a name has
 pub number_stays : (bindings more : List Bound) (text : List ℕ) (scope : Located) (n : ℕ) → number_in bindings text scope ≡ Some n →
     number_in (bindings ++ more) text scope ≡ Some n
 number_stays bindings more text scope n is =
     position-append (binds scope text) 0 (length bindings) bindings more (omega arith)
     ∙ ap (λ o. option_or o (position_from (binds scope text) (length bindings) more)) is
 
--- the same inside
+-- `Some` is injective
 pub some_same : {X : Type 0} (x y : X) → Some x ≡ Some y → x ≡ y
 some_same x y e = ap (λ o. unwrap_or o x) e
 
--- an element stays where others are added after it
+-- appending elements does not change the earlier ones
 pub get_kept : {X : Type 0} (xs ys : List X) (n : ℕ) → n < length xs → slice_get (xs ++ ys) n ≡ slice_get xs n
 get_kept [] ys n l = absurd (omega (arith, l))
 get_kept (x ∷ xs) ys zero l = refl
 get_kept (x ∷ xs) ys (suc n) l = get_kept xs ys n (omega (arith, l))
 
--- the last element is the one that is added
+-- the last element is the added one
 pub get_last : {X : Type 0} (xs : List X) (x : X) → slice_get (xs ++ x ∷ []) (length xs) ≡ Some x
 get_last [] x = refl
 get_last (y ∷ xs) x = get_last xs x
 
--- an element is the one that is added, or was there before
+-- an element is the added one, or was in the list before
 pub get_pushed : {X : Type 0} (xs : List X) (x y : X) (n : ℕ) → slice_get (xs ++ x ∷ []) n ≡ Some y →
     ((n ≡ length xs) × (x ≡ y)) ⊎ ((n < length xs) × (slice_get xs n ≡ Some y))
 get_pushed [] x y zero e = inl (refl, some_same x y e)
@@ -144,7 +144,7 @@ get_pushed (z ∷ xs) x y (suc n) e = elim (get_pushed xs x y n e) [
   | inr old ↦ inr (omega (arith, old.0), old.1)
 ]
 
--- what is found is at its place, and passes the test
+-- the element at an index that a search found, which passes the test
 pub record FoundAt {X : Type 0} (p : X → Bool) (i : ℕ) (xs : List X) (n : ℕ) : Type 0 where
   pub index : ℕ
   pub is : n ≡ i + index
@@ -163,7 +163,7 @@ position_found {X} p i (x ∷ xs) n e = chosen (p x) refl e (position_found p (i
         let found = more e in
         record { index = suc found.index; is = omega (arith, found.is); element = found.element; at = found.at; passes = found.passes }
 
--- what passes at a place is found, there or before
+-- if an element passes, the search finds it or an earlier one
 position_there : {X : Type 0} (p : X → Bool) (i : ℕ) (xs : List X) (n : ℕ) (x : X) → slice_get xs n ≡ Some x → p x ≡ true → IsSome (position_from p i xs)
 position_there p i [] n x at passes = absurd (none-some x at)
 position_there p i (y ∷ xs) zero x at passes =
@@ -174,14 +174,14 @@ position_there p i (y ∷ xs) (suc n) x at passes = chosen (p y) (position_there
     chosen true more = refl
     chosen false more = more
 
--- the binding of a number that a name has in a scope is one of that name there
+-- the binding at a number is one of the name in the scope
 pub record BindsAt (bindings : List Bound) (text : List ℕ) (scope : Located) (n : ℕ) : Type 0 where
   pub binding : Bound
   pub at : slice_get bindings n ≡ Some binding
   pub scoped : binding.scope.number ≡ scope.number
   pub named : bytes_eq binding.text text ≡ true
 
--- so it is of each number
+-- the number that a name has in a scope is that of a binding of the name there
 pub number_binds : (bindings : List Bound) (text : List ℕ) (scope : Located) (n : ℕ) → number_in bindings text scope ≡ Some n →
     BindsAt bindings text scope n
 number_binds bindings text scope n e =

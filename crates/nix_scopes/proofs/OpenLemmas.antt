@@ -1,4 +1,4 @@
--- Which nodes are open where a walk over the elements of a text enters a node: those around it.
+-- Which nodes are open when a walk over the elements of a text enters a node: those around it.
 use Rattle.std.proofs.Common.{◌≡◌, ℕ, zero, suc, ◌+◌, ◌-◌, ◌≤◌, ◌<◌, List, [], ◌∷◌, length, drop, Option, Some, None, Bool, true, false, refl, ap, sym}
 use Rattle.std.proofs.{Common.{◌∙◌, subst, arith, inl, inr}, lemmas.{List.length_push, Bool.{cases_lt, cond-true, cond-false, le-leb, lt-leb, false≢true}}}
 use Rattle.std.{proofs.lemmas.List.{Elements.{All-cons, All-filter, All-head, All-tail}, Kept.{AllPairs-cons, AllPairs-filter}}, specs.List.{All, AllPairs}}
@@ -22,7 +22,7 @@ passed : (b : Bool) (root : Located) (x : Located) (xs : List Located) → filte
 passed true root x xs none out = none
 passed false root x xs none out = cond-false (within root x) (x ∷ filter (within root) xs) (filter (within root) xs) out ∙ none
 
--- what holds an element and has a lower number than the root is not inside it
+-- nodes that hold an element and come before the root are not inside the root
 none_held : (root : Located) (t : Tree) (n k : ℕ) → k ≤ root.number → filter (within root) (holders t n k) ≡ []
 none_held root t n zero l = refl
 none_held root t n (suc k) l =
@@ -54,23 +54,23 @@ parent_around root t n l inside =
           subst (IsBelow (record { tree = t; number = n })) (sym first) (ap (located t) e)
     ]
 
--- whether an element holds the one of a number, which is not before it
+-- whether an element that does not come after the element n contains it
 abbrev pub reaches : ℕ → Located → Bool
 reaches n e = nat_le n (last_in e)
 
--- the open nodes, the innermost first, hold what all elements before the number hold that are inside the root, and an outer one ends no sooner
+-- the open nodes, innermost first: those that contain a later element are the nodes from the root up to n that do, and outer ones do not end before inner ones
 pub record HoldLater (root : Located) (n : ℕ) (nodes : List Located) : Type 0 where
   pub nested : AllPairs (λ (a b : Located). last_in a ≤ last_in b) nodes
   pub hold : (k : ℕ) → n ≤ k → filter (reaches k) nodes ≡ filter (within root) (holders root.tree k n)
 
--- nothing is open before the root
+-- before the root no node is open
 pub begun : (root : Located) → HoldLater root root.number []
 begun root = record {
   nested = λ i j d l h. absurd (omega (arith, h));
   hold = λ k l. sym (none_held root root.tree k root.number (omega arith));
 }
 
--- a token holds nothing
+-- passing a token leaves the same nodes open
 pub past_token : (root : Located) (n : ℕ) (nodes : List Located) → (item root.tree n).below ≡ 0 → HoldLater root n nodes →
     HoldLater root (n + 1) nodes
 past_token root n nodes none h = record {
@@ -81,7 +81,7 @@ past_token root n nodes none h = record {
       ∙ ap (filter (within root)) (sym (passes root.tree k n (omega (arith, l, none))) ∙ ap (holders root.tree k) one);
 }
 
--- two tests of which one passes only where the other does
+-- filtering by a test and then by a stronger one is filtering by the stronger one
 test_twice : {X : Type 0} (p q : X → Bool) → ((x : X) → p x ≡ false → q x ≡ false) → (xs : List X) → filter q (filter p xs) ≡ filter q xs
 test_twice p q fails [] = refl
 test_twice {X} p q fails (x ∷ xs) = chosen (p x) refl (test_twice p q fails xs)
@@ -90,14 +90,14 @@ test_twice {X} p q fails (x ∷ xs) = chosen (p x) refl (test_twice p q fails xs
     chosen true e more = ap (λ ys. cond (q x) (x ∷ ys) ys) more
     chosen false e more = more ∙ sym (cond-false (q x) (x ∷ filter q xs) (filter q xs) (fails x e))
 
--- all pass
+-- if all elements pass, the filter keeps them all
 test_all : {X : Type 0} (p : X → Bool) (xs : List X) → All (λ x. p x ≡ true) xs → filter p xs ≡ xs
 test_all p [] all = refl
 test_all p (x ∷ xs) all =
     cond-true (p x) (x ∷ filter p xs) (filter p xs) (All-head (λ x. p x ≡ true) x xs all)
     ∙ ap (λ ys. x ∷ ys) (test_all p xs (All-tail (λ x. p x ≡ true) x xs all))
 
--- what holds an element ends where that ends, or after it
+-- a node that holds an element does not end before the element ends
 holders_end : (t : Tree) (n k : ℕ) → n < length (items_of t) → k ≤ n → All (λ (a : Located). n + (item t n).below ≤ last_in a) (holders t n k)
 holders_end t n zero there l = λ i d h. absurd (omega (arith, h))
 holders_end t n (suc k) there l =
@@ -114,7 +114,7 @@ module _ (root : Located) (n : ℕ) (nodes : List Located) (inside : root.number
   abbrev here : Located
   here = record { tree = root.tree; number = n }
 
-  -- around a node are itself, and the open nodes that have not ended
+  -- around a node are the node itself and the open nodes that have not ended
   pub around_is : around root here ≡ here ∷ filter (reaches n) nodes
   around_is =
       let one : n + 1 ≡ suc n = omega arith in
@@ -122,7 +122,7 @@ module _ (root : Located) (n : ℕ) (nodes : List Located) (inside : root.number
       ∙ cond-true (within root here) (here ∷ filter (within root) (holders root.tree n n)) _ (le-leb root.number n inside)
       ∙ ap (λ xs. here ∷ xs) (sym (h.hold n (omega arith)))
 
-  -- a node is entered, after those that have ended are left
+  -- entering a node, after those that have ended are left
   pub past_node : n < length (items_of root.tree) → HoldLater root (n + 1) (here ∷ filter (reaches n) nodes)
   past_node there = record {
     nested =
@@ -160,14 +160,14 @@ module _ (root : Located) (n : ℕ) (nodes : List Located) (inside : root.number
           ]
 
 module _ (root : Located) (remaining n : ℕ) (count : remaining ≡ last_in root - n) (inside : n ≤ last_in root) where
-  -- none ends before the element of the number
+  -- if no node ends before element n, all are still open
   all_open : (es : List Located) → All (λ (a : Located). n ≤ last_in a) es → still_open root remaining es ≡ es
   all_open [] all = refl
   all_open (e ∷ es) all =
       ap (λ b. if b then still_open root remaining es else e ∷ es)
       (is_not_below remaining (count_after root e) (omega (arith, count, All-head (λ (a : Located). n ≤ last_in a) e es all)))
 
-  -- those are still open that do not end before it, where an outer one ends no sooner
+  -- if outer nodes do not end before inner ones, the nodes that are still open are those that do not end before element n
   pub still_open_is : (p : Located → Bool) (es : List Located) → AllPairs (λ (a b : Located). last_in a ≤ last_in b) es →
       still_open root remaining (filter p es) ≡ filter p (filter (reaches n) es)
   still_open_is p [] nested = refl
@@ -188,7 +188,7 @@ module _ (root : Located) (remaining n : ℕ) (count : remaining ≡ last_in roo
       passed true ends = ap (λ b. if b then still_open root remaining (filter p es) else e ∷ filter p es) ends
       passed false ends = refl
 
--- as many ends as elements
+-- there are as many ends as elements
 pub counts_length : (root : Located) (es : List Located) → length (counts_after root es) ≡ length es
 counts_length root [] = refl
 counts_length root (e ∷ es) = (let more = counts_length root es in omega (arith, length_push (counts_after root es) (count_after root e), more))

@@ -11,27 +11,27 @@ use Rattle.nix_scopes.specs.Names.{may_differ, plain_content, quoted_content}
 use Rattle.rnix_kinds.specs.declared.kinds.SyntaxKind.TheVariants as k
 use denote.Ref.{Bor}
 
--- a byte that is no escape is a piece
+-- a byte that needs no escape is a piece of its own
 own_piece : (b : ℕ) (text : List ℕ) → may_differ b ≡ false → first_piece false (b ∷ text) ≡ Some record { len = 1; value = b ∷ [] }
 own_piece b text h = grind (arith, nat_tests)
 
--- bytes that need no escape
+-- unescaping does not change bytes that need no escape
 all_own : (text : List ℕ) → list_any may_differ text ≡ false → unescaped false text ≡ text
 all_own [] h = unescaped-nil false
 all_own (b ∷ text) h =
     unescaped_step false b text _ (own_piece b text (or_parts _ _ h).0) ∙ ap (λ t. b ∷ t) (all_own text (or_parts _ _ h).1)
 
--- none of them is a carriage return
+-- such bytes contain no carriage return
 no_return : (text : List ℕ) → list_any may_differ text ≡ false → list_any (λ b. b == 13) text ≡ false
 no_return [] h = refl
 no_return (b ∷ text) h =
     ap (λ x. x || list_any (λ b. b == 13) text) (or_parts _ _ (or_parts _ _ (or_parts _ _ h).0).1).1 ∙ no_return text (or_parts _ _ h).1
 
--- so they are their own value
+-- such bytes are their own value
 own_value : (text : List ℕ) → list_any may_differ text ≡ false → quoted_text text ≡ text
 own_value text h = ap (unescaped false) (no_returns false text (no_return text h)) ∙ all_own text h
 
--- the value of such parts
+-- the value of parts with plain content is that content
 plain_parts : (parts : List (InterpolPart Located Located)) (text : List ℕ) → plain_content parts ≡ Some text →
     only_text (quoted_value (map (with_text text_at) parts)) ≡ Some text
 plain_parts [] text is = absurd (none-some text is)
@@ -55,7 +55,7 @@ content_is e text is = chosen (is_indented e) refl is
         let parts = map (with_text text_at) (string_parts e) in
         ap (λ b. only_text (if b then indented_value parts else quoted_value parts)) quoted ∙ plain_parts (string_parts e) text is
 
--- an attribute that is such a string is called by its content
+-- the name of an attribute that is such a string is its content
 pub content_named : (e : Located) (r : Option (Bor (List ℕ))) → (item_of e).kind ≡ k.NODE_STRING → option_map (λ text. text.now) r ≡ quoted_content e →
     IfSome r (λ text. static_name e ≡ Some text.now)
 content_named e None kind is = tt

@@ -10,7 +10,7 @@ use Rattle.nix_scopes.specs.Scopes.{Bound, is_with_body, resolved, bound_in, bin
 use Rattle.nix_scopes.proofs.{OpenLemmas.{IsBelow, counts_length}, SymbolTableLemmas.innermost_kept, ScopeLemmas.outer_found}
 use Rattle.rnix_kinds.specs.declared.kinds.SyntaxKind.TheVariants as k
 
--- whether there are some among those that are counted
+-- some element passes exactly if the number of elements that pass is not 0
 pub any_counted : {X : Type 0} (p : X → Bool) (xs : List X) → not (length (filter p xs) == 0) ≡ list_any p xs
 any_counted p [] = refl
 any_counted p (x ∷ xs) = chosen (p x) (any_counted p xs)
@@ -19,7 +19,7 @@ any_counted p (x ∷ xs) = chosen (p x) (any_counted p xs)
     chosen true e = ap not (is_above (suc (length (filter p xs))) 0 (omega arith))
     chosen false e = e
 
--- what a node binds, it binds in itself
+-- the bindings of a node have the node as their scope
 pub own_scope : (e : Located) → All (λ (b : Bound). b.scope.number ≡ e.number) (bindings_at e)
 own_scope e = chosen (is_scope e)
   where
@@ -27,7 +27,7 @@ own_scope e = chosen (is_scope e)
     chosen true = All-map (λ (b : Bound). b.scope.number ≡ e.number) (bound_in e) (names_bound e) (λ k d l. refl)
     chosen false = λ k d l. absurd (omega (arith, l))
 
--- what the elements from a number on bind is bound in scopes from there on
+-- the bindings of the elements from n on have scopes from n on
 pub bound_later : (t : Tree) (n count : ℕ) →
     All (λ (b : Bound). n ≤ b.scope.number) (flat_map bindings_at (nodes_in (map (spot_at t) (counted n count))))
 bound_later t n zero = λ k d l. absurd (omega (arith, l))
@@ -43,12 +43,12 @@ bound_later t n (suc count) = chosen (item t n).is_node (λ k d l. omega (arith,
         (λ k d l. omega (arith, own_scope (record { tree = t; number = n }) k d l)) later
     chosen false later = later
 
--- the last of a list is the one that is added
+-- the last element of a list is the added one
 last_added : (bs : List Bool) (b d : Bool) → get_or (bs ++ b ∷ []) (length bs) d ≡ b
 last_added [] b d = refl
 last_added (x ∷ bs) b d = last_added bs b d
 
--- whether the innermost of these attribute sets is a scope
+-- the last flag says whether the innermost of these attribute sets is a scope
 last_scope : (e : Located) (es : List Located) →
     get_or (which_are_scopes (e ∷ es)) (length (which_are_scopes (e ∷ es)) - 1) false ≡ is_scope e
 last_scope e es =
@@ -60,7 +60,7 @@ or_false : (b : Bool) → (b || false) ≡ b
 or_false true = refl
 or_false false = refl
 
--- the sets that are open tell whether the parent is a scope
+-- the flags of the open sets determine whether the parent is a scope
 parent_is_scope : (are_scopes : List Bool) (parent : Located) (outer : List Located) → are_scopes ≡ which_are_scopes (filter is_set (parent ∷ outer)) →
     is_scope_around are_scopes parent ≡ is_scope parent
 parent_is_scope are_scopes parent outer are = ap (λ bs. is_scope_around bs parent) are ∙ chosen (is_set parent) refl
@@ -77,28 +77,28 @@ parent_is_scope are_scopes parent outer are = ap (λ bs. is_scope_around bs pare
 
 module _ (bindings : List Binding) (more all : List Bound) (symbols : SymbolTable) (n : ℕ) (e : Located) (text : List ℕ)
     (is : all ≡ map bound_of bindings ++ more) (later : All (λ (b : Bound). n ≤ b.scope.number) more) where
-  -- the innermost binding is that among all bindings
+  -- the innermost binding among those found so far is the innermost among all bindings
   in_all : (scopes : List Located) → All (λ (scope : Located). scope.number < n) scopes →
       innermost (map bound_of bindings) text scopes ≡ innermost all text scopes
   in_all scopes below = sym (ap (λ bs. innermost bs text scopes) is ∙ innermost_kept (map bound_of bindings) more text n scopes below later)
 
-  -- a name is looked for in all scopes
+  -- looking up a name in all scopes finds its innermost binding
   found_in_scopes : (scopes : List Located) → IsSymbolTable bindings symbols n scopes → number_by symbols.numbers text ≡ innermost all text scopes
   found_in_scopes scopes h = h.names_in_scope text ∙ in_all scopes h.around
 
-  -- or in those outside of the parent, if that is a scope
+  -- looking up a name outside the parent, if that is a scope, finds the innermost binding there
   found_outside : (b : Bool) (parent : Located) (outer : List Located) → IsSymbolTable bindings symbols n (cond b (parent ∷ outer) outer) →
       number_in_scope symbols b text ≡ innermost all text outer
   found_outside true parent outer h =
       outer_found bindings symbols n parent outer text h ∙ in_all outer (All-tail (λ (scope : Located). scope.number < n) parent outer h.around)
   found_outside false parent outer h = found_in_scopes outer h
 
-  -- where there is no scope, nothing is found
+  -- if no scope is open, nothing is found
   found_none : (b : Bool) → IsSymbolTable bindings symbols n [] → number_in_scope symbols b text ≡ None
   found_none true h = ap (λ owns. outer_by (first_of owns) (number_by symbols.numbers text) symbols.shadowed.items) h.are_open ∙ h.names_in_scope text
   found_none false h = h.names_in_scope text
 
-  -- an `inherit` looks outside of its set
+  -- the names of an `inherit` are looked up outside its set or `let`
   found_inherited : (env : Environment) (around : List Located) → IsBelow e around →
       env.set_scopes.items ≡ which_are_scopes (filter is_set around) → IsSymbolTable bindings symbols n (filter is_scope around) →
       number_in_scope symbols (is_in_scope env (parent_of e)) text ≡ innermost all text (filter is_scope (drop 1 around))
@@ -108,7 +108,7 @@ module _ (bindings : List Binding) (more all : List Bound) (symbols : SymbolTabl
       ∙ ap (λ b. number_in_scope symbols b text) (parent_is_scope env.set_scopes.items parent outer sets)
       ∙ found_outside (is_scope parent) parent (filter is_scope outer) h
 
-  -- so it is of each node that is a name or an `inherit`
+  -- the names of a node, be it a name or an `inherit`, are looked up in the right scopes
   found_at_node : (env : Environment) (nodes : List Located) (b : Bool) → (b ≡ true → (is_scope e ≡ false) × (is_set e ≡ false)) →
       IsBelow e nodes → env.set_scopes.items ≡ which_are_scopes (filter is_set (e ∷ nodes)) → IsSymbolTable bindings symbols n (filter is_scope (e ∷ nodes)) →
       number_in_scope symbols (if b then is_in_scope env (parent_of e) else false) text
@@ -119,7 +119,7 @@ module _ (bindings : List Binding) (more all : List Bound) (symbols : SymbolTabl
       (subst (IsSymbolTable bindings symbols n) (cond-false (is_scope e) (e ∷ filter is_scope nodes) (filter is_scope nodes) (none refl).0) h)
   found_at_node env nodes false none below sets h = found_in_scopes (filter is_scope (e ∷ nodes)) h
 
--- what a name refers to that a node is, or has as an `inherit`
+-- a reference of the current node refers to the same binding as in the whole text
 pub seen_resolved : (root : Located) (bindings : List Binding) (more all : List Bound) (around : Environment) (n : ℕ) (e : Located)
     (nodes : List Located) (name : Named) → all ≡ map bound_of bindings ++ more → All (λ (b : Bound). n ≤ b.scope.number) more →
     (same_kind k.NODE_INHERIT (item_of e).kind ≡ true → (is_scope e ≡ false) × (is_set e ≡ false)) → IsBelow e nodes →

@@ -1,4 +1,4 @@
--- What is found so far while a text is resolved.
+-- What has been found so far while a text is resolved.
 use Rattle.std.proofs.Common.{◌≡◌, ℕ, suc, ◌+◌, ◌-◌, ◌≤◌, List, [], ◌∷◌, ◌++◌, drop, map, Bool, true, false, None, refl, ap, sym, ◌∙◌, subst, append_assoc}
 use Rattle.std.{proofs.{Common.arith, lemmas.List.map-append}, specs.{List.All, Prelude.{flat_map, filter, if◌then◌else◌, ◌||◌, ◌&&◌, is_some}}}
 use Rattle.rnix_green.specs.{Tree.{Located, item_of}, Walk.{Spot, spot_at, counted, nodes_in, elements_of}, Equality.{same_kind, same_kind-decides}}
@@ -11,7 +11,7 @@ use Rattle.nix_scopes.proofs.{OpenLemmas.{around_is, still_open_is, parent_aroun
 use Rattle.rnix_tree.specs.InsideCounts.{inside_count}
 use Rattle.rnix_kinds.specs.declared.kinds.SyntaxKind.TheVariants as k
 
--- what is found of a text before the elements of a walk that are left, of which the first has the number
+-- what has been found before the remaining elements of a walk, and the environment there
 pub record IsFound (root : Located) (bindings : List Binding) (references : List Reference) (env : Environment) (remaining : ℕ)
     (spots : List Spot) : Type 0 where
   pub number : ℕ
@@ -24,34 +24,34 @@ pub record IsFound (root : Located) (bindings : List Binding) (references : List
   pub bound : map bound_of bindings ++ flat_map bindings_at (nodes_in spots) ≡ bindings_in root
   pub listing : map resolved_of references ++ flat_map (resolved_at root) (nodes_in spots) ≡ resolved_in root
 
--- an `inherit` is no scope
+-- an `inherit` is not a scope
 inherit_no_scope : (e : Located) → same_kind k.NODE_INHERIT (item_of e).kind ≡ true → is_scope e ≡ false
 inherit_no_scope e is =
     ap (λ kind. is_binder kind || (same_kind k.NODE_ATTR_SET kind && is_some (token_of (same_kind k.TOKEN_REC) e)))
     (sym ((same_kind-decides k.NODE_INHERIT (item_of e).kind).0 is))
 
--- nor an attribute set
+-- nor is it an attribute set
 inherit_no_set : (e : Located) → same_kind k.NODE_INHERIT (item_of e).kind ≡ true → is_set e ≡ false
 inherit_no_set e is = ap (same_kind k.NODE_ATTR_SET) (sym ((same_kind-decides k.NODE_INHERIT (item_of e).kind).0 is))
 
--- one list more
+-- adding the list of the next element
 more_listed : {X Y : Type 0} (f : X → List Y) (so_far new all : List Y) (x : X) (xs : List X) → so_far ++ flat_map f (x ∷ xs) ≡ all →
     new ≡ so_far ++ f x → new ++ flat_map f xs ≡ all
 more_listed f so_far new all x xs is added = ap (λ ys. ys ++ flat_map f xs) added ∙ append_assoc so_far (f x) (flat_map f xs) ∙ is
 
--- what is listed of one element more is mapped
+-- adding the mapped list of the next element
 pub mapped_next : {X Y : Type 0} (f : Located → List X) (g : X → Y) (so_far new all : List Y) (before after : List Located) (e same : Located) →
     so_far ++ map g (flat_map f before) ≡ all → before ≡ e ∷ after → same ≡ e → new ≡ so_far ++ map g (f same) → new ++ map g (flat_map f after) ≡ all
 mapped_next f g so_far new all before after e same is first same_is added =
     ap (λ ys. ys ++ map g (flat_map f after)) (added ∙ ap (λ x. so_far ++ map g (f x)) same_is) ∙ append_assoc so_far (map g (f e)) (map g (flat_map f after))
     ∙ ap (λ ys. so_far ++ ys) (sym (map-append g (f e) (flat_map f after))) ∙ ap (λ es. so_far ++ map g (flat_map f es)) (sym first) ∙ is
 
--- maps by functions that agree
+-- functions with equal results map a list to equal lists
 map_alike : {X Y : Type 0} (f g : X → Y) → ((x : X) → f x ≡ g x) → (xs : List X) → map f xs ≡ map g xs
 map_alike f g same [] = refl
 map_alike f g same (x ∷ xs) = ap (λ y. y ∷ map f xs) (same x) ∙ ap (λ ys. g x ∷ ys) (map_alike f g same xs)
 
--- nothing is found before the walk
+-- before the walk nothing has been found
 pub found_begun : (root : Located) (bindings : List Binding) (references : List Reference) (env : Environment) (remaining : ℕ) (spots : List Spot) →
     remaining ≡ inside_count root → spots ≡ elements_of root → bindings ≡ [] → references ≡ [] →
     ((text : List ℕ) → number_by env.symbols.numbers text ≡ None) → env.symbols.shadowed.items ≡ [] → env.symbols.scopes.items ≡ [] →
@@ -77,11 +77,11 @@ found_begun root bindings references env remaining spots count is none no_refere
           ∙ ap (λ es. flat_map (resolved_at root) (nodes_in es)) is;
     }
 
--- one element less is left
+-- after one element, one less remains
 one_less : (last n others : ℕ) → suc last - n ≡ suc others → others ≡ suc last - (n + 1)
 one_less last n others is = omega (arith, is)
 
--- a token is passed
+-- passing a token
 pub found_token : (root : Located) (bindings : List Binding) (references : List Reference) (env : Environment) (remaining less : ℕ)
     (spots later : List Spot) (e : Located) → IsFound root bindings references env remaining spots → spots ≡ (false, e) ∷ later → less ≡ remaining - 1 →
     IsFound root bindings references env less later
@@ -109,7 +109,7 @@ found_token root bindings references env remaining less spots later e h is one =
       listing = ap (λ es. map resolved_of references ++ flat_map (resolved_at root) es) (sym nodes_are) ∙ h.listing;
     }
 
--- what the names of a node are found to refer to
+-- the references of a node are resolved as in the whole text
 here_resolved : (root : Located) (bindings : List Binding) (later : List Bound) (env : Environment) (n : ℕ) (e : Located) (nodes : List Located) →
     map bound_of bindings ++ later ≡ bindings_in root → All (λ (b : Bound). n ≤ b.scope.number) later → IsBelow e nodes → around root e ≡ e ∷ nodes →
     IsEnvironment root bindings env n (filter is_scope (e ∷ nodes)) (filter is_with_body (e ∷ nodes)) (filter is_set (e ∷ nodes)) →
@@ -121,7 +121,7 @@ here_resolved root bindings later env n e nodes bound high below around_is sees 
     ∙ ap (λ around. resolved_among (bindings_in root) around e name) (sym around_is))
     (references_at e)
 
--- a node is entered where those around it are open
+-- entering a node when the open nodes are those around it
 found_entered : (root : Located) (bindings more : List Binding) (references others : List Reference) (env : Environment) (remaining n : ℕ)
     (later : List Spot) (e : Located) (nodes : List Located) → root.number ≤ n → remaining ≡ last_in root - n →
     later ≡ map (spot_at root.tree) (counted n (suc (last_in root) - n)) →
@@ -154,7 +154,7 @@ found_entered root bindings more references others env remaining n later e nodes
           (here_resolved root more (flat_map bindings_at (nodes_in later)) env n e nodes bound_is high below around_is sees));
     }
 
--- those that have ended are left, and a node is entered
+-- leaving the nodes that have ended, and entering a node
 pub found_node : (root : Located) (bindings same more : List Binding) (references others : List Reference) (env outer inner : Environment)
     (remaining less : ℕ) (spots later : List Spot) (e : Located) → IsFound root bindings references env remaining spots → spots ≡ (true, e) ∷ later →
     less ≡ remaining - 1 → same ≡ bindings → ((root : Located) → (n : ℕ) → (scopes bodies sets : List Located) →
@@ -205,7 +205,7 @@ found_node root bindings same more references others env outer inner remaining l
     (ap (λ es. map bound_of bindings ++ flat_map bindings_at es) (sym listed) ∙ h.bound)
     (ap (λ es. map resolved_of references ++ flat_map (resolved_at root) es) (sym listed) ∙ h.listing) bound referred
 
--- the same is found where all is the same
+-- equal bindings, references and environments have been found, too
 pub found_same : (root : Located) (bindings others : List Binding) (references alike : List Reference) (env same : Environment) (remaining : ℕ)
     (spots : List Spot) → others ≡ bindings → alike ≡ references → same ≡ env → IsFound root bindings references env remaining spots →
     IsFound root others alike same remaining spots
@@ -214,7 +214,7 @@ found_same root bindings others references alike env same remaining spots bindin
     (subst (λ rs. IsFound root bindings rs same remaining spots) (sym references_are)
     (subst (λ around. IsFound root bindings references around remaining spots) (sym env_is) h))
 
--- the names of what is resolved in a text are its references
+-- the names of the resolved references are the references of the text
 pub names_resolved : (root : Located) (references : List Reference) → map resolved_of references ≡ resolved_in root →
     map name_of references ≡ references_in root
 names_resolved root references is =

@@ -4,11 +4,11 @@ use Rattle.{rnix_green.specs.{Forest.{node, join}, Tree.Located}, nix_scopes.spe
 use Rattle.rnix_base.specs.{Escapes.values, Value.fed}
 use Rattle.rnix_kinds.specs.declared.kinds.SyntaxKind.TheVariants as k
 
--- a tree at whose root these trees stand
+-- a root with these children
 abbrev text : Forest → Located
 text f = record { tree = record { kind = k.NODE_ROOT; children = f }; number = 0 }
 
--- the bindings that the names of a text refer to, and which of the names are open
+-- the bindings to which the names of a text refer, and which of the names are open
 abbrev referred : Forest → List (Option ℕ)
 referred f = map (λ name. name.binding) (resolved_in (text f))
 
@@ -62,7 +62,7 @@ with_in namespace body = node k.NODE_WITH (leaf k.TOKEN_WITH (codes "with") (joi
 abbrev below_with : Forest
 below_with = let_in (entry 120 number empty) (with_in (ident 97 empty) (node k.NODE_LIST (ident 120 (ident 98 empty)) empty))
 
--- the binding goes before the `with`, and b alone is open
+-- the binding takes precedence over the `with`, and only b is open
 bound_first : referred below_with ≡ None ∷ Some 0 ∷ None ∷ []
 bound_first = refl
 

@@ -1,4 +1,4 @@
--- What is known of the names in scope while a text is resolved.
+-- What is known about the names in scope while a text is resolved.
 use Rattle.std.proofs.Common.{◌≡◌, ℕ, ◌+◌, ◌-◌, ◌<◌, ◌≤◌, List, [], ◌∷◌, ◌++◌, length, map, Option, Some, None, refl, ap, sym, ◌∙◌, subst, arith, inl, inr}
 use Rattle.std.proofs.{Common.append_assoc, lemmas.List.{length-map, map-append, map_more, map_push, length_push, Elements.{All-append, All-weaker, All-push}}}
 use Rattle.std.{proofs.lemmas.{List.{same_from_push, Elements.{All-cons, All-tail}}, Bool.{cond-true, cond-false, le-leb, lt-leb, false≢true}}, proofs.Common.get_or}
@@ -9,7 +9,7 @@ use Rattle.nix_scopes.specs.Resolving.{number_by, shadowed_by, outside_of, IsLon
 use Rattle.nix_scopes.specs.Resolving.{outer_number, Numbers, own_of}
 use Rattle.nix_scopes.proofs.{NumberLemmas.{number_binds, number_stays, number_there, get_last}, SymbolTableLemmas.{innermost_low, innermost_kept, all_kept, binding_begun, binding_more, number_own}}
 
--- one more is mapped twice
+-- mapping one more element twice
 pub mapped_more : {X Y Z : Type 0} (g : X → Y) (f : Y → Z) (xs : List X) (i : ℕ) (x : X) (old bs more : List Z) → i < length xs → x ≡ get_or xs i x →
     bs ≡ old ++ map f (map g (take i xs)) → more ≡ bs ++ f (g x) ∷ [] → more ≡ old ++ map f (map g (take (i + 1) xs))
 mapped_more g f xs i x old bs more l at is added =
@@ -18,7 +18,7 @@ mapped_more g f xs i x old bs more l at is added =
     (sym (ap (map f) (map_more g xs i x l) ∙ map_push f (map g (take i xs)) (g (get_or xs i x))
     ∙ ap (λ y. map f (map g (take i xs)) ++ f (g y) ∷ []) (sym at)))
 
--- a scope binds one name more
+-- a scope binds one more name
 pub names_more : (outer : List ℕ → Option ℕ) (bindings more : List Binding) (old new : Numbers) (shadowed shown : List (Option ℕ))
     (first number own : ℕ) (was hid : Option ℕ) (scope : Located) (b : Bound) → b.scope.number ≡ scope.number →
     map bound_of more ≡ map bound_of bindings ++ b ∷ [] → number ≡ length bindings → was ≡ number_by old b.text →
@@ -39,7 +39,7 @@ names_more outer bindings more old new shadowed shown first number own was hid s
       ap (λ all. number_in all b.text scope) is ∙ number_own outer bs old new shadowed first scope b same h own given,
     )
 
--- and each binding names the first of its name
+-- each binding has the number of the first one of its name
 pub firsts_more : (bindings more : List Binding) (b : Binding) → more ≡ bindings ++ b ∷ [] →
     number_in (map bound_of more) (cow_str_bytes b.text) b.scope ≡ Some b.first → AreFirst bindings → AreFirst more
 firsts_more bindings more b is found firsts =
@@ -52,7 +52,7 @@ firsts_more bindings more b is found firsts =
         ∙ ap (λ bs. number_in bs (cow_str_bytes x.text) x.scope) (map-append bound_of bindings (b ∷ []))
         ∙ number_stays (map bound_of bindings) (map bound_of (b ∷ [])) (cow_str_bytes x.text) x.scope x.first first
 
--- nothing is in scope at the beginning
+-- at the beginning no name is in scope
 pub seen_begun : (bindings : List Binding) (symbols : SymbolTable) (n : ℕ) → bindings ≡ [] → ((text : List ℕ) → number_by symbols.numbers text ≡ None) →
     symbols.shadowed.items ≡ [] → symbols.scopes.items ≡ [] → IsSymbolTable bindings symbols n []
 seen_begun bindings symbols n none no_numbers no_hidden no_scopes = record {
@@ -64,7 +64,7 @@ seen_begun bindings symbols n none no_numbers no_hidden no_scopes = record {
   firsts = subst AreFirst (sym none) (λ k d l. absurd (omega (arith, l)));
 }
 
--- a scope has bound nothing yet where it is entered
+-- a scope that is entered has bound nothing yet
 pub seen_binding : (bindings : List Binding) (symbols : SymbolTable) (n : ℕ) (scope : Located) (scopes : List Located) → n ≤ scope.number →
     IsSymbolTable bindings symbols n scopes →
     IsBinding (λ text. innermost (map bound_of bindings) text scopes) (map bound_of bindings) symbols.numbers symbols.shadowed.items (length bindings) scope
@@ -76,7 +76,7 @@ seen_binding bindings symbols n scope scopes l h =
     (binding_begun (λ text. innermost (map bound_of bindings) text scopes) (map bound_of bindings) symbols.numbers symbols.shadowed.items scope
     (λ k d i. omega (arith, h.behind k d i, l)) h.names_in_scope (λ text m is. innermost_low (map bound_of bindings) text scopes m is) (h.count ∙ sym count))
 
--- the same outside
+-- an open scope stays open if names have the same numbers outside it
 open_same : (outer others : List ℕ → Option ℕ) (bindings : List Bound) (shadowed : List (Option ℕ)) (first end : ℕ) (scope : Located) →
     ((text : List ℕ) → others text ≡ outer text) → IsOpen outer bindings shadowed first end scope → IsOpen others bindings shadowed first end scope
 open_same outer others bindings shadowed first end scope same h = record {
@@ -87,7 +87,7 @@ open_same outer others bindings shadowed first end scope same h = record {
   shadows = λ n b low high at. h.shadows n b low high at ∙ sym (same b.text);
 }
 
--- a scope is entered, and its names are bound
+-- entering a scope binds its names
 pub scope_entered : (bindings more : List Binding) (names : List Bound) (old new : SymbolTable) (own : Scope) (n : ℕ) (scope : Located)
     (scopes : List Located) → n ≤ scope.number → map bound_of more ≡ map bound_of bindings ++ names → All (λ (b : Bound). b.scope.number ≡ scope.number) names →
     new.scopes.items ≡ old.scopes.items ++ own ∷ [] → own.first ≡ length bindings → own.end ≡ length more → IsLonger old.shadowed.items new.shadowed.items →
@@ -126,7 +126,7 @@ scope_entered bindings more names old new own n scope scopes l is owned pushed f
       firsts = firsts outer begun h.firsts;
     }
 
--- a node that is no scope is entered
+-- entering a node that is not a scope changes nothing
 pub still_seen : (bindings : List Binding) (symbols : SymbolTable) (n m : ℕ) (scopes : List Located) → n ≤ m → IsSymbolTable bindings symbols n scopes →
     IsSymbolTable bindings symbols m scopes
 still_seen bindings symbols n m scopes l h = record {
@@ -138,7 +138,7 @@ still_seen bindings symbols n m scopes l h = record {
   firsts = h.firsts;
 }
 
--- a scope is left
+-- leaving a scope
 pub scope_remaining : (bindings : List Binding) (old new : SymbolTable) (own : Scope) (n : ℕ) (scope : Located) (outer : List Located) →
     old.scopes.items ≡ new.scopes.items ++ own ∷ [] → new.shadowed.items ≡ old.shadowed.items →
     ((out : List ℕ → Option ℕ) → IsShadowed out (map bound_of bindings) old.numbers old.shadowed.items own → (text : List ℕ) →
@@ -183,13 +183,13 @@ scope_remaining bindings old new own n scope outer popped same_hidden shown h =
         let inside = opened.inside text m is in
         absurd (false≢true (sym (e.1 m found.binding inside.0 inside.1 found.at) ∙ found.named))
 
--- where a scope is open, there is one to leave
+-- if a scope is open, the list of scopes is not empty
 pub none_remaining : (bindings : List Binding) (old new : SymbolTable) (n : ℕ) (scope : Located) (outer : List Located) → old.scopes.items ≡ [] →
     IsSymbolTable bindings old n (scope ∷ outer) → IsSymbolTable bindings new n outer
 none_remaining bindings old new n scope outer none h =
     absurd (omega (arith, ap length none, ap length h.are_open.2, length_push h.are_open.1 h.are_open.0))
 
--- the number of a name outside of the innermost scope
+-- the number of a name outside the innermost scope
 pub outer_found : (bindings : List Binding) (symbols : SymbolTable) (n : ℕ) (scope : Located) (outer : List Located) (text : List ℕ) →
     IsSymbolTable bindings symbols n (scope ∷ outer) → outer_number symbols text ≡ innermost (map bound_of bindings) text outer
 outer_found bindings symbols n scope outer text h =

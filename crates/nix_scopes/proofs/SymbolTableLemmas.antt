@@ -1,4 +1,4 @@
--- What comes into sight with a scope, and goes out of sight with it.
+-- What comes into scope when a scope is entered, and goes out of scope when it is left.
 use Rattle.std.proofs.Common.{◌≡◌, ℕ, ◌+◌, ◌<◌, ◌≤◌, List, [], ◌∷◌, ◌++◌, length, Bool, true, false, Option, Some, None, refl, ap, sym, ◌∙◌, inl, inr}
 use Rattle.std.proofs.{Common.{arith}, lemmas.{List.{length_push, get_or_append_left, Elements.{All-head, All-tail}}, Bool.{cond-true, cond-false, le-leb, lt-leb, cases_lt}}}
 use Rattle.std.proofs.{Math.Seq.get_or-append_seam, lemmas.{Option.{none-some, slice_get_within}, Slice.Eq.bytes_eq-Decides}}
@@ -8,29 +8,29 @@ use Rattle.nix_scopes.specs.Resolving.{Numbers, number_by, shadowed_by, outside_
 use Rattle.{nix_scopes.specs.declared.symbols.Scope.Scope, std.proofs.Common.length-append}
 use Rattle.nix_scopes.proofs.NumberLemmas.{or_none, some_same, none_below, number_kept, number_bound, get_kept, get_pushed, number_binds}
 
--- one more is shadowed
+-- adding a number keeps the earlier ones
 pub longer_pushed : (shadowed : List (Option ℕ)) (o : Option ℕ) → IsLonger shadowed (shadowed ++ o ∷ [])
 longer_pushed shadowed o = record {
   longer = omega (arith, length_push shadowed o);
   same = λ n l. get_or_append_left shadowed (o ∷ []) None n l;
 }
 
--- nothing is added
+-- `IsLonger` is reflexive
 pub longer_same : (shadowed : List (Option ℕ)) → IsLonger shadowed shadowed
 longer_same shadowed = record { longer = omega arith; same = λ n l. refl }
 
--- it grows twice
+-- `IsLonger` is transitive
 pub longer_twice : (a b c : List (Option ℕ)) → IsLonger a b → IsLonger b c → IsLonger a c
 longer_twice a b c first second = record {
   longer = omega (arith, first.longer, second.longer);
   same = λ n l. second.same n (omega (arith, l, first.longer)) ∙ first.same n l;
 }
 
--- a number of a name in a scope is one of a binding
+-- the number that a name has in a scope is that of a binding
 number_low : (bindings : List Bound) (text : List ℕ) (scope : Located) (n : ℕ) → number_in bindings text scope ≡ Some n → n < length bindings
 number_low bindings text scope n e = (let found = number_binds bindings text scope n e in slice_get_within bindings n found.binding found.at)
 
--- so is the innermost one
+-- so is the number of its innermost binding
 pub innermost_low : (bindings : List Bound) (text : List ℕ) (scopes : List Located) (n : ℕ) → innermost bindings text scopes ≡ Some n → n < length bindings
 innermost_low bindings text [] n e = absurd (none-some n e)
 innermost_low bindings text (scope ∷ outer) n e =
@@ -41,7 +41,7 @@ innermost_low bindings text (scope ∷ outer) n e =
     chosen None own more e = more n e
     chosen (Some m) own more e = own n e
 
--- bindings of scopes of higher numbers leave the innermost ones as they are
+-- adding bindings of scopes with higher numbers does not change the innermost bindings
 pub innermost_kept : (bindings more : List Bound) (text : List ℕ) (n : ℕ) (scopes : List Located) → All (λ (scope : Located). scope.number < n) scopes →
     All (λ (b : Bound). n ≤ b.scope.number) more → innermost (bindings ++ more) text scopes ≡ innermost bindings text scopes
 innermost_kept bindings more text n [] below all = refl
@@ -51,7 +51,7 @@ innermost_kept bindings more text n (scope ∷ outer) below all =
     ∙ ap (option_or (number_in bindings text scope))
     (innermost_kept bindings more text n outer (All-tail (λ (scope : Located). scope.number < n) scope outer below) all)
 
--- they leave a scope that is open as it is
+-- adding such bindings does not change an open scope
 open_kept : (outer others : List ℕ → Option ℕ) (bindings more : List Bound) (shadowed shown : List (Option ℕ)) (first end : ℕ) (scope : Located) →
     ((text : List ℕ) → others text ≡ outer text) → All (λ (b : Bound). scope.number < b.scope.number) more → IsLonger shadowed shown →
     IsOpen outer bindings shadowed first end scope → IsOpen others (bindings ++ more) shown first end scope
@@ -66,7 +66,7 @@ open_kept outer others bindings more shadowed shown first end scope same all lon
     kept : (n : ℕ) (b : Bound) → n < end → slice_get (bindings ++ more) n ≡ Some b → slice_get bindings n ≡ Some b
     kept n b high at = sym (get_kept bindings more n (omega (arith, high, h.bounds.1))) ∙ at
 
--- so it is of each open scope
+-- nor does it change any of the open scopes
 pub all_kept : (bindings more : List Bound) (shadowed shown : List (Option ℕ)) (n : ℕ) (owns : List Scope) (scopes : List Located) →
     All (λ (scope : Located). scope.number < n) scopes → All (λ (b : Bound). n ≤ b.scope.number) more → IsLonger shadowed shown →
     AreOpen bindings shadowed owns scopes → AreOpen (bindings ++ more) shown owns scopes
@@ -82,7 +82,7 @@ all_kept bindings more shadowed shown n owns (scope ∷ outer) below all longer 
       all_kept bindings more shadowed shown n h.1 outer rest all longer h.4,
     )
 
--- a scope has bound nothing yet
+-- a scope that is entered has bound nothing yet
 pub binding_begun : (outer : List ℕ → Option ℕ) (bindings : List Bound) (numbers : Numbers) (shadowed : List (Option ℕ)) (scope : Located) →
     All (λ (b : Bound). b.scope.number < scope.number) bindings → ((text : List ℕ) → number_by numbers text ≡ outer text) →
     ((text : List ℕ) (n : ℕ) → outer text ≡ Some n → n < length bindings) → length shadowed ≡ length bindings →
@@ -101,7 +101,7 @@ binding_begun outer bindings numbers shadowed scope all seen before count = reco
 
 module _ (outer : List ℕ → Option ℕ) (bindings : List Bound) (old new : Numbers) (shadowed : List (Option ℕ)) (first : ℕ) (scope : Located)
     (b : Bound) (same : b.scope.number ≡ scope.number) (h : IsBinding outer bindings old shadowed first scope) where
-  -- what a name is found to be as it is bound: its number in the scope, and its number outside
+  -- the numbers that a name has when it is bound: in the scope, and outside it
   record Given (o : Option ℕ) : Type 0 where
     own : option_or o (Some (length bindings)) ≡ Some (own_of (option_or o (outer b.text)) first (length bindings))
     outside : outside_of (option_or o (outer b.text)) first shadowed ≡ outer b.text
@@ -127,7 +127,7 @@ module _ (outer : List ℕ → Option ℕ) (bindings : List Bound) (old new : Nu
             ∙ ap outer ((bytes_eq-Decides found.binding.text b.text).0 found.named);
       }
 
-  -- what the name of the binding has, and what the others have
+  -- the numbers after a name is bound: that of the name, and those of the others
   in_scope_more : (own : ℕ) → (text : List ℕ) (o : Option ℕ) (e : Bool) → bytes_eq b.text text ≡ e → number_in bindings text scope ≡ o →
       own ≡ own_of (number_by old b.text) first (length bindings) →
       (if e then Some own else number_by old text) ≡ option_or (option_or o (if e then Some (length bindings) else None)) (outer text)
@@ -144,7 +144,7 @@ module _ (outer : List ℕ → Option ℕ) (bindings : List Bound) (old new : Nu
       or_any None n p = refl
       or_any (Some m) n p = refl
 
-  -- the name of the binding has its number in the scope
+  -- the bound name has its number in the scope
   pub number_own : (own : ℕ) → own ≡ own_of (number_by old b.text) first (length bindings) → number_in (bindings ++ b ∷ []) b.text scope ≡ Some own
   number_own own given_own =
       let o : Option ℕ = number_in bindings b.text scope in
@@ -152,7 +152,7 @@ module _ (outer : List ℕ → Option ℕ) (bindings : List Bound) (old new : Nu
       ∙ ap (λ e. option_or o (if e then Some (length bindings) else None)) ((bytes_eq-Decides b.text b.text).1 refl)
       ∙ (given o refl).own ∙ sym (ap Some (given_own ∙ ap (λ n. own_of n first (length bindings)) (h.names_in_scope b.text)))
 
-  -- the scope binds one name more
+  -- the scope binds one more name
   pub binding_more : (own : ℕ) → own ≡ own_of (number_by old b.text) first (length bindings) →
       ((text : List ℕ) → number_by new text ≡ (if bytes_eq b.text text then Some own else number_by old text)) →
       IsBinding outer (bindings ++ b ∷ []) new (shadowed ++ outside_of (number_by old b.text) first shadowed ∷ []) first scope
@@ -201,7 +201,7 @@ module _ (outer : List ℕ → Option ℕ) (bindings : List Bound) (old new : Nu
           get_or_append_left shadowed (outside_of (number_by old b.text) first shadowed ∷ []) None n (omega (arith, was.0, h.count))
           ∙ h.is_open.shadows n x low was.0 was.1
 
--- what is shown of more bindings is shown of fewer
+-- what is restored for more bindings is restored for fewer
 pub shown_fewer : (outer : List ℕ → Option ℕ) (bindings : List Bound) (first end number : ℕ) (old new : Numbers) (text : List ℕ) →
     end ≤ number → IsRestored outer bindings first number old new text → IsRestored outer bindings first end old new text
 shown_fewer outer bindings first end number old new text less (inl shown) = inl shown
@@ -209,7 +209,7 @@ shown_fewer outer bindings first end number old new text less (inr kept) = inr (
 
 module _ (outer : List ℕ → Option ℕ) (bindings : List Bound) (old now new : Numbers) (shadowed : List (Option ℕ)) (own : Scope) (number : ℕ)
     (so_far : (text : List ℕ) → IsRestored outer bindings own.first number old now text) where
-  -- a number that is no binding's shows nothing
+  -- a number without a binding restores nothing
   shown_none : slice_get bindings number ≡ None → (text : List ℕ) → number_by new text ≡ number_by now text →
       IsRestored outer bindings own.first (number + 1) old new text
   shown_none none text same = elim (so_far text) [
@@ -225,7 +225,7 @@ module _ (outer : List ℕ → Option ℕ) (bindings : List Bound) (old now new 
     )
   ]
 
-  -- what one more binding shadowed is restored
+  -- restoring what one more binding shadowed
   shown_binding : (b : Bound) → IsShadowed outer bindings old shadowed own → own.first ≤ number → number < own.end → slice_get bindings number ≡ Some b →
       ((IsSome (shadowed_by shadowed number) → IsSome (number_by now b.text)) → (text : List ℕ) →
       number_by new text ≡ (if bytes_eq b.text text then shadowed_by shadowed number else number_by now text)) →
@@ -256,7 +256,7 @@ module _ (outer : List ℕ → Option ℕ) (bindings : List Bound) (old now new 
         ],
       )
 
-  -- so it is of one number more
+  -- restoring what one more number shadowed
   pub shown_more : IsShadowed outer bindings old shadowed own → own.first ≤ number → number < own.end →
       ((b : Bound) → slice_get bindings number ≡ Some b → (IsSome (shadowed_by shadowed number) → IsSome (number_by now b.text)) → (text : List ℕ) →
       number_by new text ≡ (if bytes_eq b.text text then shadowed_by shadowed number else number_by now text)) →

@@ -16,12 +16,12 @@ use Rattle.nix_scopes.specs.Names.{Named, named_if, names_written}
 abbrev pub named : Name → Named
 named name = record { text = cow_str_bytes name.text; node = name.node }
 
--- the name that an identifier is, if there is one
+-- the name of an identifier, if there is one
 abbrev pub ident_name : Option Located → List Named
 ident_name None = []
 ident_name (Some e) = record { text = text_at e; node = e } ∷ []
 
--- the name that an attribute is called, if there is one and the text alone says it
+-- the name of an attribute, if there is one and the text alone determines it
 abbrev pub written_name : Option Located → List Named
 written_name None = []
 written_name (Some e) = named_if e (static_name e)

@@ -16,11 +16,11 @@ bindings_of r = r.bindings.items
 abbrev pub references_of : Resolution → List Reference
 references_of r = r.references.items
 
--- what a binding binds
+-- the binding in the terms of `bindings_in`
 abbrev pub bound_of : Binding → Bound
 bound_of binding = record { text = cow_str_bytes binding.text; node = binding.node; scope = binding.scope }
 
--- what a reference is found to be
+-- the reference in the terms of `resolved_in`
 abbrev pub resolved_of : Reference → Resolved
 resolved_of reference =
     record {
@@ -31,15 +31,15 @@ resolved_of reference =
       is_open = reference.is_open;
     }
 
--- the first binding of a binding's name in its scope is the one that it names as the first
+-- `first` is the number of the first binding of the same name in the same scope
 abbrev pub IsFirstOf : List Binding → Binding → Type 0
 IsFirstOf bindings binding = number_in (map bound_of bindings) (cow_str_bytes binding.text) binding.scope ≡ Some binding.first
 
--- so it is of each of these
+-- this holds for each of these bindings
 abbrev pub AreFirst : List Binding → Type 0
 AreFirst bindings = All (IsFirstOf bindings) bindings
 
--- the name that a reference is
+-- the name of a reference, and the node that writes it
 abbrev pub name_of : Reference → Named
 name_of reference = record { text = cow_str_bytes reference.text; node = reference.node }
 

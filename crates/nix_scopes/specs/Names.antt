@@ -13,12 +13,12 @@ pub record Named : Type 0 where
   pub text : List ℕ
   pub node : Located
 
--- the node with its name, if there is one
+-- the node with its name, if it has one
 abbrev pub named_if : Located → Option (List ℕ) → List Named
 named_if e None = []
 named_if e (Some text) = record { text = text; node = e } ∷ []
 
--- the names that these attributes are called
+-- the names of these attributes, where the text alone determines them
 abbrev pub names_written : List Located → List Named
 names_written nodes = flat_map (λ e. named_if e (static_name e)) nodes
 

@@ -15,20 +15,20 @@ use Rattle.nix_scopes.specs.declared.resolution.Reference.{Reference}
 use Rattle.nix_scopes.specs.declared.resolution.Resolution.{Resolution}
 use Rattle.nix_scopes.specs.Bound.{bindings_of, references_of}
 
--- whether this is the number, if it is one
+-- whether a number is given and is equal to this one
 abbrev pub is_number : ℕ → Option ℕ → Bool
 is_number number None = false
 is_number number (Some other) = nat_eq other number
 
--- where the binding of a number is written, in each of its parts
+-- the ranges at which the binding with a number is written, one for each of its parts
 abbrev pub written_at : ℕ → List Binding → List Extent
 written_at number bindings = map (λ part. extent_of part.node) (filter (λ part. nat_eq part.first number) bindings)
 
--- where the binding of a number is referred to
+-- the ranges of the references to the binding with a number
 abbrev pub referred_at : ℕ → List Reference → List Extent
 referred_at number references = map (λ extent. extent_of extent.node) (filter (λ extent. is_number number extent.binding) references)
 
--- where the binding of a number is written, and then where it is referred to
+-- the ranges at which the binding with a number is written, and then those of the references to it
 abbrev pub occurrences_of : ℕ → Resolution → List Extent
 occurrences_of number names = written_at number (bindings_of names) ++ referred_at number (references_of names)
 
@@ -41,39 +41,39 @@ if_identifier (Some e) = if same_kind (item_of e).kind k.NODE_IDENT then Some e 
 abbrev pub identifier_of : Located → Option Located
 identifier_of token = if_identifier (parent_of token)
 
--- the identifier to which one of these tokens belongs; the right one, if each belongs to one
+-- the identifier to which one of these tokens belongs; the right token's, if both belong to one
 abbrev pub identifier_among : TokenAtOffset Located → Option Located
 identifier_among at.None = None
 identifier_among (at.Single token) = identifier_of token
 identifier_among (at.Between left right) = option_or (identifier_of right) (identifier_of left)
 
--- this is the name at an offset, if there is one
+-- `name` is the name at an offset, or `None` if there is none
 abbrev pub IsNameAt : Located → ℕ → Option Located → Type 0
 IsNameAt root offset name = (tokens : TokenAtOffset Located) × AreTouched root offset tokens × (name ≡ identifier_among tokens)
 
--- whether a node is at a place
+-- whether a node has a range
 abbrev pub is_at : Extent → Located → Bool
 is_at extent e = nat_eq (extent_of e).start extent.start && nat_eq (extent_of e).end extent.end
 
--- the number of the first of these bindings that is written at a place
+-- the number of the first of these bindings that is written at a range
 abbrev pub written_number : Extent → List Binding → Option ℕ
 written_number extent [] = None
 written_number extent (binding ∷ more) = if is_at extent binding.node then Some binding.first else written_number extent more
 
--- the number of the binding to which the first of these references at a place refers
+-- the number of the binding to which the first of these references at a range refers
 abbrev pub referred_number : Extent → List Reference → Option ℕ
 referred_number extent [] = None
 referred_number extent (reference ∷ more) = if is_at extent reference.node then reference.binding else referred_number extent more
 
--- the number of the binding that is written at a place, or to which what is there refers
+-- the number of the binding that is written at a range, or else of the one to which the reference there refers
 abbrev pub number_at : Resolution → Extent → Option ℕ
 number_at names extent = option_or (written_number extent (bindings_of names)) (referred_number extent (references_of names))
 
--- the binding of a number, if there is one
+-- the binding with a number, if there is one
 abbrev pub binding_of : Resolution → Option ℕ → Option Binding
 binding_of names None = None
 binding_of names (Some number) = slice_get (bindings_of names) number
 
--- the binding that is written at a place, or to which what is there refers
+-- the binding that is written at a range, or else the one to which the reference there refers
 abbrev pub binding_at : Resolution → Extent → Option Binding
 binding_at names extent = binding_of names (number_at names extent)

@@ -1,4 +1,4 @@
--- What is kept while a text is resolved: the numbers of the names in scope, and what the open scopes shadow.
+-- The state while a text is resolved: the numbers of the names in scope, and what the open scopes shadow.
 use Rattle.std.specs.Prelude.{◌≡◌, ℕ, ◌+◌, ◌<◌, ◌≤◌, ◌==◌, ◌⊎◌, nat_le, nat_lt, Bool, false, not, List, [], ◌∷◌, ◌++◌, map, length, get_or, slice_get}
 use Rattle.std.specs.Prelude.{Option, Some, None, IsSome, option_map, ◌-◌, ◌*◌, if◌then◌else◌}
 use Rattle.std.specs.List.{All}
@@ -25,11 +25,11 @@ use Rattle.nix_scopes.specs.Binders.{is_scope, is_binder}
 use Rattle.nix_scopes.specs.Scopes.{Bound, Resolved, resolved, number_in, innermost}
 use Rattle.nix_scopes.specs.Bound.{bound_of, AreFirst}
 
--- the number that the first four bytes of a name make; 0 is in place of each that it does not have
+-- the number that the first four bytes of a name make; a missing byte counts as 0
 abbrev pub first_four : List ℕ → ℕ
 first_four text = from_be_bytes w32 (get_or text 0 0 ∷ get_or text 1 0 ∷ get_or text 2 0 ∷ get_or text 3 0 ∷ [])
 
--- the number that the last four bytes of a name make; in a name that has fewer the first one is repeated
+-- the number that the last four bytes of a name make; in a shorter name, the first byte is repeated
 abbrev pub last_four : List ℕ → ℕ
 last_four text =
     let end : ℕ = length text in
@@ -39,11 +39,11 @@ last_four text =
 abbrev pub fingerprint_of : List ℕ → ℕ
 fingerprint_of text = last_four text * 4294967296 + first_four text
 
--- a name after its number
+-- a key: the fingerprint of a name, and the name
 abbrev pub Key : Type 0
 Key = ℕ × NameText
 
--- a key is that of a name
+-- the key is that of the name
 abbrev pub IsKeyOf : List ℕ → Key → Type 0
 IsKeyOf text key = (key.0 ≡ fingerprint_of text) × (name_bytes key.1 ≡ text)
 
@@ -51,7 +51,7 @@ IsKeyOf text key = (key.0 ≡ fingerprint_of text) × (name_bytes key.1 ≡ text
 abbrev pub compare_key : List ℕ → Key → Ordering
 compare_key text key = ordering_then (nat_cmp (fingerprint_of text) key.0) (slice_cmp nat_cmp text (name_bytes key.1))
 
--- numbers of names
+-- the numbers of the names in scope
 abbrev pub Numbers : Type 0
 Numbers = BTreeMap Key ℕ
 
@@ -59,26 +59,26 @@ Numbers = BTreeMap Key ℕ
 abbrev pub number_by : Numbers → List ℕ → Option ℕ
 number_by numbers text = get_by (compare_key text) numbers
 
--- the number that the name of a binding has outside of its scope
+-- the number that the name of a binding has outside its scope
 abbrev pub shadowed_by : List (Option ℕ) → ℕ → Option ℕ
 shadowed_by shadowed number = get_or shadowed number None
 
--- the number of a name outside of a scope of these numbers, where it has this one inside
+-- the number of a name outside a scope whose numbers begin with `first`, given its number inside
 abbrev pub outside_of : Option ℕ → ℕ → List (Option ℕ) → Option ℕ
 outside_of None first shadowed = None
 outside_of (Some own) first shadowed = if nat_le first own then shadowed_by shadowed own else Some own
 
--- the number that a name has in a scope whose numbers begin with the first, or else this one
+-- the number that a name already has in a scope whose numbers begin with `first`, or else a new one
 abbrev pub own_of : Option ℕ → ℕ → ℕ → ℕ
 own_of None first number = number
 own_of (Some own) first number = if nat_le first own then own else number
 
--- what is shadowed grows, and what it was it stays
+-- the list has grown, and its old elements are unchanged
 pub record IsLonger (shadowed more : List (Option ℕ)) : Type 0 where
   pub longer : length shadowed ≤ length more
   pub same : (number : ℕ) → number < length shadowed → shadowed_by more number ≡ shadowed_by shadowed number
 
--- the bindings from the first to the end, exclusive, are those of a scope, and their names have these numbers outside of it
+-- the bindings from `first` to `end`, exclusive, are those of a scope, and `shadowed` contains the numbers of their names outside it
 pub record IsOpen (outer : List ℕ → Option ℕ) (bindings : List Bound) (shadowed : List (Option ℕ)) (first end : ℕ) (scope : Located) : Type 0 where
   pub bounds : (first ≤ end) × (end ≤ length bindings) × (end ≤ length shadowed)
   pub before : (text : List ℕ) → (number : ℕ) → outer text ≡ Some number → number < first
@@ -86,14 +86,14 @@ pub record IsOpen (outer : List ℕ → Option ℕ) (bindings : List Bound) (sha
   pub own : (number : ℕ) → (b : Bound) → first ≤ number → number < end → slice_get bindings number ≡ Some b → b.scope.number ≡ scope.number
   pub shadows : (number : ℕ) → (b : Bound) → first ≤ number → number < end → slice_get bindings number ≡ Some b → shadowed_by shadowed number ≡ outer b.text
 
--- a scope binds its names: those that it has bound are in scope, and after them the names outside of it
+-- a scope binds its names one by one: those bound so far have their numbers in the scope, and the others have their numbers outside it
 pub record IsBinding (outer : List ℕ → Option ℕ) (bindings : List Bound) (numbers : Numbers) (shadowed : List (Option ℕ)) (first : ℕ)
     (scope : Located) : Type 0 where
   pub names_in_scope : (text : List ℕ) → number_by numbers text ≡ option_or (number_in bindings text scope) (outer text)
   pub count : length shadowed ≡ length bindings
   pub is_open : IsOpen outer bindings shadowed first (length bindings) scope
 
--- the names of a scope are in scope, and shadow their numbers outside of it
+-- the names of a scope are in scope, and shadow the numbers that they have outside it
 pub record IsShadowed (outer : List ℕ → Option ℕ) (bindings : List Bound) (numbers : Numbers) (shadowed : List (Option ℕ)) (own : Scope)
     : Type 0 where
   pub shadows : (number : ℕ) → (b : Bound) → own.first ≤ number → number < own.end → slice_get bindings number ≡ Some b →
@@ -101,22 +101,22 @@ pub record IsShadowed (outer : List ℕ → Option ℕ) (bindings : List Bound) 
   pub names_in_scope : (number : ℕ) → (b : Bound) → own.first ≤ number → number < own.end → slice_get bindings number ≡ Some b →
       IsSome (number_by numbers b.text)
 
--- a name has its number outside of a scope again, or no binding from the first to the end, exclusive, shadows it, and it keeps its number
+-- a name has its number outside a scope again, or no binding from `first` to `end`, exclusive, shadows it and its number is unchanged
 abbrev pub IsRestored : (List ℕ → Option ℕ) → List Bound → ℕ → ℕ → Numbers → Numbers → List ℕ → Type 0
 IsRestored outer bindings first end old new text =
     (number_by new text ≡ outer text)
     ⊎ ((number_by new text ≡ number_by old text)
     × ((number : ℕ) → (b : Bound) → first ≤ number → number < end → slice_get bindings number ≡ Some b → bytes_eq b.text text ≡ false))
 
--- these are the bindings of the scopes, the innermost last, and each of them shadows what its names are outside of it
+-- these are the bindings of the open scopes, innermost last, and each scope shadows the numbers that its names have outside it
 abbrev pub AreOpen : List Bound → List (Option ℕ) → List Scope → List Located → Type 0
 AreOpen bindings shadowed owns [] = owns ≡ []
 AreOpen bindings shadowed owns (scope ∷ outer) =
     (own : Scope) × (below : List Scope) × (owns ≡ below ++ own ∷ [])
     × IsOpen (λ text. innermost bindings text outer) bindings shadowed own.first own.end scope × AreOpen bindings shadowed below outer
 
--- what these scopes bind is in scope, all of which are below the number n, as are the scopes of all bindings that were found; each of these names
--- the first of its name
+-- the names that these scopes bind are in scope; these scopes, and those of all bindings found so far, have numbers below n; and each binding
+-- has the number of the first one of its name
 pub record IsSymbolTable (bindings : List Binding) (symbols : SymbolTable) (n : ℕ) (scopes : List Located) : Type 0 where
   pub behind : All (λ (b : Bound). b.scope.number < n) (map bound_of bindings)
   pub around : All (λ (scope : Located). scope.number < n) scopes
@@ -125,34 +125,34 @@ pub record IsSymbolTable (bindings : List Binding) (symbols : SymbolTable) (n : 
   pub are_open : AreOpen (map bound_of bindings) symbols.shadowed.items symbols.scopes.items scopes
   pub firsts : AreFirst bindings
 
--- the number of the last element inside an element, or its own
+-- the number of the last element inside an element, or the element's own number if nothing is inside
 abbrev pub last_in : Located → ℕ
 last_in e = e.number + inside_count e
 
--- how many elements inside the root come after an element and what is inside it
+-- the number of elements inside the root that follow an element and its descendants
 abbrev pub count_after : Located → Located → ℕ
 count_after root e = last_in root - last_in e
 
--- so many come after each of these elements; the count of the first is the last
+-- the number of elements that follow each of these elements, in reverse order
 abbrev pub counts_after : Located → List Located → List ℕ
 counts_after root [] = []
 counts_after root (e ∷ es) = counts_after root es ++ count_after root e ∷ []
 
--- whether this count, if there is one, is more than what is left
+-- whether a count is given and is greater than the number of remaining elements
 abbrev pub is_more : ℕ → Option ℕ → Bool
 is_more remaining None = false
 is_more remaining (Some behind) = nat_lt remaining behind
 
--- so it is of the last of these counts
+-- whether the last of these counts is greater than the number of remaining elements
 abbrev pub has_ended : ℕ → List ℕ → Bool
 has_ended remaining ends = is_more remaining (slice_get ends (length ends - 1))
 
--- these elements without the first ones that have ended, after which come more elements than are left
+-- these elements without the first ones that have ended: more elements follow those than remain
 abbrev pub still_open : Located → ℕ → List Located → List Located
 still_open root remaining [] = []
 still_open root remaining (e ∷ es) = if nat_lt remaining (count_after root e) then still_open root remaining es else e ∷ es
 
--- what these scopes bind is in scope, and these are their ends
+-- the names that these scopes bind are in scope, and these are the ends of the scopes
 abbrev pub HasScopes : Located → List Binding → SymbolTable → List ℕ → ℕ → List Located → Type 0
 HasScopes root bindings symbols ends n scopes = IsSymbolTable bindings symbols n scopes × (ends ≡ counts_after root scopes)
 
@@ -160,23 +160,23 @@ HasScopes root bindings symbols ends n scopes = IsSymbolTable bindings symbols n
 abbrev pub is_set : Located → Bool
 is_set e = same_kind k.NODE_ATTR_SET (item_of e).kind
 
--- whether each of these nodes is a scope; the first of them is the last
+-- whether each of these nodes is a scope, in reverse order
 abbrev pub which_are_scopes : List Located → List Bool
 which_are_scopes [] = []
 which_are_scopes (e ∷ es) = which_are_scopes es ++ is_scope e ∷ []
 
--- these are the ends of these attribute sets, and which of them are scopes
+-- these are the ends of these attribute sets, and the flags say which of the sets are scopes
 abbrev pub HasSets : Located → List ℕ → List Bool → List Located → Type 0
 HasSets root ends are_scopes sets = (are_scopes ≡ which_are_scopes sets) × (ends ≡ counts_after root sets)
 
--- what is known of what is around the place where these scopes, these bodies of `with` and these attribute sets are open
+-- the environment describes a position inside these scopes, bodies of `with` and attribute sets
 pub record IsEnvironment (root : Located) (bindings : List Binding) (around : Environment) (n : ℕ) (scopes bodies sets : List Located) : Type 0 where
   pub has_scopes : HasScopes root bindings around.symbols around.scope_ends.items n scopes
   pub has_bodies : around.body_ends.items ≡ counts_after root bodies
   pub has_sets : HasSets root around.set_ends.items around.set_scopes.items sets
 
--- after the scopes, bodies of `with` and attribute sets are left that end before an element, after which come so many more, what is known is of those
--- that are still open
+-- after leaving the scopes, bodies of `with` and attribute sets that end before an element, which `remaining` more follow, the environment describes
+-- those that are still open
 abbrev pub LeavesEnded : ℕ → List Binding → Environment → Environment → Type 0
 LeavesEnded remaining bindings old new =
     (root : Located) → (n : ℕ) → (scopes bodies sets : List Located) → IsEnvironment root bindings old n scopes bodies sets →
@@ -186,16 +186,16 @@ LeavesEnded remaining bindings old new =
 abbrev pub first_of : List Scope → Option ℕ
 first_of owns = option_map (λ own. own.first) (slice_get owns (length owns - 1))
 
--- the number of a name outside of the innermost scope, if there is one
+-- the number of a name outside the innermost scope, or its number if no scope is open
 abbrev pub outer_by : Option ℕ → Option ℕ → List (Option ℕ) → Option ℕ
 outer_by None number shadowed = number
 outer_by (Some first) number shadowed = outside_of number first shadowed
 
--- the number of a name outside of the innermost scope
+-- the number of a name outside the innermost scope
 abbrev pub outer_number : SymbolTable → List ℕ → Option ℕ
 outer_number symbols text = outer_by (first_of symbols.scopes.items) (number_by symbols.numbers text) symbols.shadowed.items
 
--- whether a node is a scope, where the last of these says whether the innermost attribute set is one
+-- whether a node is a scope, where the last flag says whether the innermost attribute set is one
 abbrev pub is_scope_around : List Bool → Located → Bool
 is_scope_around are_scopes parent = if is_set parent then get_or are_scopes (length are_scopes - 1) false else is_binder (item_of parent).kind
 
@@ -204,22 +204,22 @@ abbrev pub is_in_scope : Environment → Option Located → Bool
 is_in_scope around None = false
 is_in_scope around (Some parent) = is_scope_around around.set_scopes.items parent
 
--- the number of a name, outside of the innermost scope or in all scopes
+-- the number of a name, outside the innermost scope or in all scopes
 abbrev pub number_in_scope : SymbolTable → Bool → List ℕ → Option ℕ
 number_in_scope symbols is_outer text = if is_outer then outer_number symbols text else number_by symbols.numbers text
 
--- a name that refers to the binding of a number, or has none
+-- a name that refers to the binding with a number, or to none
 abbrev pub referring : Environment → Option ℕ → Bool → Named → Resolved
 referring around binding is_inherited name = resolved is_inherited (not (length around.body_ends.items == 0)) binding name
 
--- what a name refers to, outside of the innermost scope or in all scopes
+-- what a name refers to, looked up outside the innermost scope or in all scopes
 abbrev pub resolve_name : Environment → Bool → Bool → Named → Resolved
 resolve_name around is_outer is_inherited name = referring around (number_in_scope around.symbols is_outer name.text) is_inherited name
 
--- whether names of a node are looked for outside of the innermost scope: an `inherit` takes them from around its set or `let`
+-- whether the names of a node are looked up outside the innermost scope: those of an `inherit` are, if its parent is a scope
 abbrev pub is_from_outside : Environment → Located → Bool
 is_from_outside around e = if same_kind k.NODE_INHERIT (item_of e).kind then is_in_scope around (parent_of e) else false
 
--- what the names refer to that a node is, or has as an `inherit`
+-- what a reference of a node refers to
 abbrev pub resolve_at : Environment → Located → Named → Resolved
 resolve_at around e name = resolve_name around (is_from_outside around e) (same_kind k.NODE_INHERIT (item_of e).kind) name

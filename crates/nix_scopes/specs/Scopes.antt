@@ -26,23 +26,23 @@ bound_in scope name = record { text = name.text; node = name.node; scope = scope
 abbrev pub bindings_at : Located → List Bound
 bindings_at e = if is_scope e then map (bound_in e) (names_bound e) else []
 
--- all that is bound inside a node, in the order of the scopes
+-- all bindings inside a node, in the order of their scopes
 abbrev pub bindings_in : Located → List Bound
 bindings_in root = flat_map bindings_at (nodes_in (elements_of root))
 
--- a node and the nodes around it, up to the root, the innermost first
+-- a node and the nodes around it, up to the root, innermost first
 abbrev pub around : Located → Located → List Located
 around root e = filter (λ a. nat_le root.number a.number) (ancestors_of e)
 
--- the scopes among the nodes around a node in which its names may be bound: an `inherit` takes them from outside of its set or `let`
+-- the scopes among these nodes in which the names of a node inside them are looked up: an `inherit` takes them from outside its set or `let`
 abbrev pub scopes_of : List Located → Located → List Located
 scopes_of nodes e = filter is_scope (drop (if same_kind k.NODE_INHERIT (item_of e).kind then 2 else 0) nodes)
 
--- whether this binds the name in the scope
+-- whether this binding binds the name in the scope
 abbrev pub binds : Located → List ℕ → Bound → Bool
 binds scope text bound = (bound.scope.number == scope.number) && bytes_eq bound.text text
 
--- the number of the first binding of a name in a scope: its place among all bindings
+-- the number of the first binding of a name in a scope: its index among all bindings
 abbrev pub number_in : List Bound → List ℕ → Located → Option ℕ
 number_in bindings text scope = position_from (binds scope text) 0 bindings
 
@@ -51,7 +51,7 @@ abbrev pub innermost : List Bound → List ℕ → List Located → Option ℕ
 innermost bindings text [] = None
 innermost bindings text (scope ∷ outer) = option_or (number_in bindings text scope) (innermost bindings text outer)
 
--- whether a node is the body of a `with`, if this is its parent
+-- whether a node is the body of a `with`, given its parent
 abbrev pub is_body_below : Option Located → Located → Bool
 is_body_below None e = false
 is_body_below (Some parent) e = same_kind k.NODE_WITH (item_of parent).kind && is_after_node e
@@ -68,21 +68,21 @@ pub record Resolved : Type 0 where
   pub binding : Option ℕ
   pub is_open : Bool
 
--- a name with its binding, if it has one; without one it is open below a `with`
+-- a name with its binding; without a binding, the name is open if it is below a `with`
 abbrev pub resolved : Bool → Bool → Option ℕ → Named → Resolved
 resolved is_inherited below_with binding name =
     record { text = name.text; node = name.node; is_inherited = is_inherited; binding = binding; is_open = not (is_some binding) && below_with }
 
--- what a name refers to that a node is, or has as an `inherit`, where these are all bindings, and these nodes are around the node
+-- what a reference of a node refers to, given all bindings and the nodes around the node
 abbrev pub resolved_among : List Bound → List Located → Located → Named → Resolved
 resolved_among bindings nodes e name =
     resolved (same_kind k.NODE_INHERIT (item_of e).kind) (list_any is_with_body nodes) (innermost bindings name.text (scopes_of nodes e)) name
 
--- the references that a node is, or has as an `inherit`
+-- the references of a node, with what they refer to
 abbrev pub resolved_at : Located → Located → List Resolved
 resolved_at root e = map (resolved_among (bindings_in root) (around root e) e) (references_at e)
 
--- the references inside a node, in the order of the nodes that are or have them: each refers to the binding of its name in the innermost scope
--- around it that binds it
+-- the references inside a node, in preorder: each refers to the binding of its name in the innermost scope around it
+-- that binds the name
 abbrev pub resolved_in : Located → List Resolved
 resolved_in root = flat_map (resolved_at root) (nodes_in (elements_of root))

@@ -1,4 +1,4 @@
--- What an update makes of a text where a single entry defines the attribute.
+-- The result of an update of a text in which a single entry defines the attribute.
 use Rattle.std.proofs.Common.{◌≡◌, ℕ, List, [], ◌∷◌, false, inl, sym, subst}
 use Rattle.rnix_green.specs.Tree.{Located}
 use Rattle.nix_update.specs.declared.{outcome.{Attempt.{Attempt}, Outcome.{Outcome}}, request.Update.{Update}, steps.PathStep.{PathStep}, definitions.Definition.{Definition}}

@@ -1,4 +1,4 @@
--- A path that is read from the entry of a set.
+-- A path that is parsed as the entry of a set.
 use Rattle.std.proofs.Common.{◌≡◌, ℕ, ◌-◌, List, [], map, Some, None, Option, String, string_bytes}
 use Rattle.std.specs.Prelude.{Result, Ok, Err, IfOk, IfSome}
 use Rattle.rnix_kinds.specs.Lexical.Tokens.{tokens_of}
@@ -8,7 +8,7 @@ use Rattle.rnix_grammar.specs.Parsed.{IsParsed}
 use Rattle.rnix.specs.{NodeKinds.{is_attr, is_expr}, AttrName.static_name, ParseResult.{Reading, root_of}}
 use Rattle.nix_update.specs.{declared.path.Path.Path, Path.{entry_with, path_inside, IsPath}}
 
--- the path of the entry, with its names and where they begin, is a path
+-- the path of the entry, with its names and their offsets, is a path
 pub whole_path : {E : Type 0} (text : List ℕ) (read : Reading) (path : Located) (r : Result (Option Path) E)
     → IsParsed (tokens_of (entry_with text)) read.tree read.faults → read.faults ≡ []
     → path_inside (child_of is_expr 0 (root_of read)) ≡ Some path → text_at path ≡ text

@@ -1,4 +1,4 @@
--- The expressions along a path, found one after the other.
+-- The expressions along a path, found one after another.
 use Rattle.std.proofs.Common.{◌≡◌, ℕ, zero, suc, ◌+◌, ◌<◌, ◌≤◌, List, [], ◌∷◌, ◌++◌, length, get_or, false, Some, None, inl, inr, refl, ap, sym, subst, ◌∙◌, arith}
 use Rattle.std.proofs.lemmas.List.{get_or_append_left, get_or_default}
 use Rattle.std.proofs.lemmas.List.Elements.{All-append, All-get_or, Contains-append_left, Contains-append_right}
@@ -9,7 +9,7 @@ use Rattle.rnix_green.specs.Tree.{Located}
 use Rattle.nix_update.specs.declared.steps.PathStep.{PathStep}
 use Rattle.nix_update.specs.PathSteps.{step, step_if, next_steps, IsPathStep, ArePathSteps}
 
--- these are expressions along the path; the root is one, and those that follow the first ones are among them
+-- these are expressions along the path; the root is one, and those that follow the first n are among them
 pub record AreStepsUpTo (names : List (List ℕ)) (root : Located) (steps : List PathStep) (n : ℕ) : Type 0 where
   pub sound : All (IsPathStep names root) steps
   pub first : Contains steps (step root 0 false)
@@ -27,17 +27,17 @@ root_step names root steps is = subst (λ steps. AreStepsUpTo names root steps 0
     first_is zero d l = IsPathStep.begins
     first_is (suc k) d l = absurd (omega (arith, l))
 
--- each that follows an expression along the path is along the path
+-- every expression that follows one along the path is along the path
 all_follow : (names : List (List ℕ)) (root : Located) (w : PathStep) → IsPathStep names root w → All (IsPathStep names root) (next_steps names w)
 all_follow names root w on = λ k d l.
     IsPathStep.follows w (get_or (next_steps names w) k d) on (k, l, get_or_default (next_steps names w) k (get_or (next_steps names w) k d) d l)
 
--- the element of a number is still there where others are added
+-- adding elements does not change the element at an index
 still_there : {X : Type 0} (xs ys : List X) (k : ℕ) (x : X) → k < length xs → slice_get (xs ++ ys) k ≡ Some x → slice_get xs k ≡ Some x
 still_there xs ys k x l at =
     slice_get-get_or xs k x l ∙ ap Some (sym (get_or_append_left xs ys x k l) ∙ get_or_from_slice_get (xs ++ ys) k x x at)
 
--- what follows one more of them is added
+-- the expressions that follow one more of them are added
 pub one_step_more : (names : List (List ℕ)) (root : Located) (steps more : List PathStep) (n : ℕ) (w : PathStep) → AreStepsUpTo names root steps n →
     slice_get steps n ≡ Some w → more ≡ steps ++ next_steps names w → AreStepsUpTo names root more (n + 1)
 one_step_more names root steps more n w h at is = subst (λ steps. AreStepsUpTo names root steps (n + 1)) (sym is) record {
@@ -66,7 +66,7 @@ one_step_more names root steps more n w h at is = subst (λ steps. AreStepsUpTo 
           (subst (λ v. Contains (next_steps names v) next) (same_Some v w (sym v_is ∙ at)) has)
     ]
 
--- where none is left, all are found
+-- once no expression remains, all have been found
 pub all_steps : (names : List (List ℕ)) (root : Located) (steps : List PathStep) (n : ℕ) → AreStepsUpTo names root steps n → slice_get steps n ≡ None →
     ArePathSteps names root steps
 all_steps names root steps n h none = record { sound = h.sound; complete = complete }

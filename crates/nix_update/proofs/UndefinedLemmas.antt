@@ -1,4 +1,4 @@
--- What an update makes of a text where no entry defines the attribute.
+-- The result of an update of a text in which no entry defines the attribute.
 use Rattle.std.proofs.Common.{◌≡◌, ℕ, List, [], false, inr}
 use Rattle.std.specs.Prelude.{Result, Ok, Err, IfOk}
 use Rattle.rnix_green.specs.Tree.{Located}

@@ -1,4 +1,4 @@
--- What an update makes of a text, from what is found along its path.
+-- The result of an update of a text, given what is found on its path.
 use Rattle.std.proofs.Common.{◌≡◌, ℕ, List, [], map, string_bytes, subst}
 use Rattle.std.specs.Prelude.{Result, Ok, Err, IfOk}
 use Rattle.rnix_kinds.specs.Lexical.Tokens.{tokens_of}

@@ -4,13 +4,13 @@ use Rattle.std.proofs.lemmas.{List.{append-nil, flat_map_more}, Str.encode_ascii
 use Rattle.std.specs.{Prelude.{flat_map, encode_utf8}, Str.{NoCharPasses, EmptyOrStartsWithPassing}, Char.{is_whitespace, is_not_whitespace}}
 use Rattle.{rnix_base.{specs.Quoted.nix_string, proofs.QuotedLemmas.is_quoted}, nix_update.specs.Words.{StartsWithWord, AreWords, item_text, list_text, IsListOf}}
 
--- a list so far: its items are the words before a rest
+-- a list so far: its items are the words before the rest
 pub record ListedBefore (text rest list : List ℕ) : Type 0 where
   pub seen : List (List ℕ)
   pub words : (more : List (List ℕ)) → AreWords rest more → AreWords text (seen ++ more)
   pub list_is : list ≡ codes "[ " ++ flat_map item_text seen
 
--- what is promised of an item of `split_whitespace`, as a record
+-- an item of `split_whitespace`, as a record
 word_of : (text word rest : List ℕ) → (gap : List ℕ) × (text ≡ gap ++ (word ++ rest)) × (0 < length word) × NoCharPasses is_not_whitespace gap
     × NoCharPasses is_whitespace word × ((more : List ℕ) × EmptyOrStartsWithPassing is_whitespace rest more) → StartsWithWord text word rest
 word_of text word rest item =
@@ -32,12 +32,12 @@ word_listed text rest list word next new before item is = record {
   list_is = is ∙ ap (λ l. l ++ item_text word) before.list_is ∙ flat_map_more item_text (codes "[ ") before.seen word;
 }
 
--- an item is added: the string of a word, and a space
+-- adding an item: a word as a string, and a space
 pub item_added : (list middle new word : List ℕ) → middle ≡ list ++ nix_string word → new ≡ middle ++ encode_utf8 32 → new ≡ list ++ item_text word
 item_added list middle new word middle_is is =
     is ∙ ap (λ l. middle ++ l) (encode_ascii 32 (omega arith)) ∙ ap (λ l. l ++ codes " ") middle_is ∙ append_assoc list (nix_string word) (codes " ")
 
--- no word is left: with its bracket the list is complete
+-- no word remains: with its bracket the list is complete
 pub all_listed : (text rest list new : List ℕ) → ListedBefore text rest list → NoCharPasses is_not_whitespace rest → new ≡ list ++ encode_utf8 93 →
     IsListOf text new
 all_listed text rest list new before none is = record {

@@ -12,25 +12,25 @@ use Rattle.rnix.specs.NodeKinds.{is_attr, is_expr}
 use Rattle.rnix.specs.ParseResult.{Reading, root_of}
 use Rattle.rnix.specs.AttrName.{static_name}
 
--- the path of a node of a kind, if it is an entry with a value
+-- the path of a node of a kind, if the node is an entry with a value
 abbrev pub path_by : SyntaxKind → Located → Option Located
 path_by kind entry = if same_kind k.NODE_ATTRPATH_VALUE kind then child_of (same_kind k.NODE_ATTRPATH) 0 entry else None
 
--- the path of the only one of these nodes
+-- the path of the only node in the list
 abbrev pub path_among : List Located → Option Located
 path_among (entry ∷ []) = path_by (item_of entry).kind entry
 path_among nodes = None
 
--- the path of the only entry of an expression, if it is a set of one entry
+-- the path of the only entry of an expression, if it is a set with one entry
 abbrev pub path_inside : Option Located → Option Located
 path_inside None = None
 path_inside (Some e) = if same_kind k.NODE_ATTR_SET (item_of e).kind then path_among (nodes_in (children_of e)) else None
 
--- a set of one entry with this path
+-- a set with one entry, which has this path
 abbrev pub entry_with : List ℕ → List ℕ
 entry_with path = codes "{" ++ (path ++ codes "=0;}")
 
--- a text is a path, with these names, of which each begins at an offset: it is the whole path of the entry of a set, and writes out its names
+-- a text is a path with these names, each of which begins at an offset: it is the whole path of the entry of a set, and the text alone determines its names
 pub record IsPath (text : List ℕ) (names : List (List ℕ)) (starts : List ℕ) : Type 0 where
   pub read : Reading
   pub is_read : IsParsed (tokens_of (entry_with text)) read.tree read.faults

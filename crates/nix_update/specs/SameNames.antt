@@ -1,4 +1,4 @@
--- When the names of a text mean the same in another one that lacks one of its entries.
+-- When the names in a text mean the same in another text that lacks one of its entries.
 use Rattle.std.specs.Prelude.{◌≡◌, ℕ, ◌-◌, nat_lt, nat_le, ◌||◌, Bool, List, Option, Some, None, filter, slice_get, if◌then◌else◌}
 use Rattle.std.specs.List.{AllZip}
 use Rattle.std.specs.Cow.{cow_str_bytes}
@@ -9,7 +9,7 @@ use Rattle.nix_scopes.specs.declared.resolution.Resolution.{Resolution}
 use Rattle.nix_scopes.specs.Bound.{bindings_of, references_of}
 use Rattle.nix_update.specs.declared.meaning.Change.{Change}
 
--- where an offset of the longer text is in the shorter one, if it is not in the entry
+-- the offset in the shorter text for an offset of the longer one, unless that is in the entry
 abbrev pub shifted : Change → ℕ → Option ℕ
 shifted change offset =
     if nat_lt offset change.start then Some offset
@@ -20,16 +20,16 @@ shifted change offset =
 abbrev pub start_of : Located → ℕ
 start_of e = (item_of e).start
 
--- whether a reference is not in the entry
+-- whether a reference is outside the entry
 abbrev pub is_outside : Change → Reference → Bool
 is_outside change reference = nat_lt (start_of reference.node) change.start || nat_le change.end (start_of reference.node)
 
--- the binding of a number, if there is one
+-- the binding with a number, if there is one
 abbrev pub binding_at : Resolution → Option ℕ → Option Binding
 binding_at names None = None
 binding_at names (Some number) = slice_get (bindings_of names) number
 
--- two bindings, one of each text, are in the same scope; or there are none
+-- two bindings, one of each text, are in the same scope; or neither exists
 abbrev pub AreInSameScope : Change → Option Binding → Option Binding → Type 0
 AreInSameScope change (Some longer) (Some shorter) = shifted change (start_of longer.scope) ≡ Some (start_of shorter.scope)
 AreInSameScope change None None = Unit {0}
@@ -42,7 +42,7 @@ pub record IsSameReference (change : Change) (longer shorter : Resolution) (refe
   pub is_open : reference.is_open ≡ other.is_open
   pub scope : AreInSameScope change (binding_at longer reference.binding) (binding_at shorter other.binding)
 
--- the references outside of the entry are those of the shorter text, one for one, and each means the same
+-- the references outside the entry are those of the shorter text, one for one, and each means the same
 abbrev pub HaveSameMeaning : Change → Resolution → Resolution → Type 0
 HaveSameMeaning change longer shorter =
     AllZip (IsSameReference change longer shorter) (filter (is_outside change) (references_of longer)) (references_of shorter)

@@ -1,4 +1,4 @@
--- What an update makes of a text.
+-- The result of an update of a text.
 use Rattle.std.specs.Prelude.{◌≡◌, ◌⊎◌, ℕ, ◌-◌, nat_eq, nat_lt, ◌&&◌, not, Bool, true, false, if◌then◌else◌, List, [], ◌∷◌, ◌++◌, codes, length, drop, flat_map, find, slice_get, Option, Some, None, string_bytes}
 use Rattle.rnix_kinds.specs.declared.kinds.SyntaxKind.{SyntaxKind}
 use Rattle.rnix_kinds.specs.declared.kinds.SyntaxKind.TheVariants as k
@@ -42,11 +42,11 @@ pub record IsEntrySet (form : Form) (value text : List ℕ) (root : Located) (de
   pub exact : definition.path_match ≡ matches.Exact
   pub is_set : IsValueSet form value text root definition.entry made
 
--- the entry that a longer text has in addition to a shorter one
+-- the entry that a longer text has and a shorter one lacks
 abbrev pub change_of : Located → List ℕ → List ℕ → Change
 change_of entry longer shorter = record { start = (item_of entry).start; end = (item_of entry).end; by = length longer - length shorter }
 
--- without an entry, the names outside of it mean the same
+-- without an entry, the names outside it mean the same
 pub record IsMeaningKeptWithout (text : List ℕ) (root entry : Located) (made : List ℕ) : Type 0 where
   pub read : Reading
   pub is_read : IsParsed (tokens_of made) read.tree read.faults
@@ -56,7 +56,7 @@ pub record IsMeaningKeptWithout (text : List ℕ) (root entry : Located) (made :
   pub others_found : IsResolution (root_of read) others
   pub alike : HaveSameMeaning (change_of entry text made) names others
 
--- an entry that defines the attribute, or a part of it, is removed; unless it is forced, names mean the same without it
+-- an entry that defines the attribute, or a part of it, is removed; unless this is forced, names mean the same without it
 pub record IsEntryRemoved (is_forced : Bool) (text : List ℕ) (root : Located) (definition : Definition) (made : List ℕ) : Type 0 where
   pub removable : is_removable definition.path_match ≡ true
   pub removed : IsRemoved text root definition.entry made
@@ -84,7 +84,7 @@ abbrev pub entry_at : Option Located → Option Located
 entry_at None = None
 entry_at (Some set) = last_entry set
 
--- with a last entry more in a set, the names outside of it mean the same
+-- with one more entry at the end of a set, the names outside the entry mean the same
 pub record IsMeaningKeptWith (text : List ℕ) (root set : Located) (made : List ℕ) : Type 0 where
   pub read : Reading
   pub is_read : IsParsed (tokens_of made) read.tree read.faults
@@ -100,42 +100,42 @@ pub record IsMeaningKeptWith (text : List ℕ) (root set : Located) (made : List
 abbrev pub entry_text : List ℕ → List ℕ → List ℕ
 entry_text names new = names ++ (codes " = " ++ (new ++ codes ";"))
 
--- a set gets an entry after its last one, or before its closing bracket
+-- a set gets an entry after its last one, or if it has none, before its closing bracket
 abbrev pub IsEntryInserted : Option Located → List ℕ → Located → Located → List ℕ → List ℕ → Type 0
 IsEntryInserted None text root set entry made = IsInsertedInside text root set k.NODE_ATTRPATH_VALUE entry made
 IsEntryInserted (Some last) text root set entry made = IsInsertedAfter text root last k.NODE_ATTRPATH_VALUE entry made
 
--- a set gets an entry with these names and what a value means
+-- a set gets an entry with these names, whose value is what a value means
 pub record IsEntryAdded (form : Form) (value names text : List ℕ) (root set : Located) (made : List ℕ) : Type 0 where
   pub kind : SyntaxKind
   pub new : List ℕ
   pub is_value : IsValueOf form value kind new
   pub inserted : IsEntryInserted (last_entry set) text root set (entry_text names new) made
 
--- the most names of a path that lead to attributes, or this number if it is more
+-- the largest number of names of a path that lead to attributes, but at least this number
 abbrev pub longest_prefix : ℕ → List PathStep → ℕ
 longest_prefix most [] = most
 longest_prefix most (w ∷ steps) = longest_prefix (if not w.in_let && nat_lt most w.at then w.at else most) steps
 
--- whether an expression along the path is a set to which so many names lead, none of them of a `let`
+-- whether an expression along the path is a set to which this number of names lead, none of them a name of a `let`
 abbrev pub is_insertion_set : ℕ → PathStep → Bool
 is_insertion_set most w = not w.in_let && (nat_eq w.at most && same_kind (item_of w.node).kind k.NODE_ATTR_SET)
 
--- such an expression
+-- the expression, if it is such a set
 abbrev pub insertion_set_if : ℕ → PathStep → List PathStep
 insertion_set_if most w = if is_insertion_set most w then w ∷ [] else []
 
--- the sets along the path to which the most names lead
+-- the sets along the path to which the largest number of names lead
 abbrev pub insertion_sets_in : List PathStep → List PathStep
 insertion_sets_in steps = flat_map (insertion_set_if (longest_prefix 0 steps)) steps
 
--- these are the names of a path from a number on, as they are written
+-- the names of a path from an index on, as they are written
 pub record IsRest (starts path : List ℕ) (at : ℕ) (rest : List ℕ) : Type 0 where
   pub start : ℕ
   pub start_is : slice_get starts at ≡ Some start
   pub rest_is : rest ≡ drop start path
 
--- a set gets an entry with the other names of the path; unless it is forced, names mean the same with it
+-- a set gets an entry with the remaining names of the path; unless this is forced, names mean the same with it
 pub record IsAddedTo (is_forced : Bool) (form : Form) (value path starts : List ℕ) (target : PathStep) (text : List ℕ) (root : Located) (made : List ℕ)
     : Type 0 where
   pub names : List ℕ
@@ -143,49 +143,49 @@ pub record IsAddedTo (is_forced : Bool) (form : Form) (value path starts : List 
   pub added : IsEntryAdded form value names text root target.node made
   pub kept : is_forced ≡ false → IsMeaningKeptWith text root target.node made
 
--- so it is with the only set to which the most names lead
+-- this happens to the only set to which the largest number of names lead
 pub record IsAdded (is_forced : Bool) (form : Form) (value path starts : List ℕ) (steps : List PathStep) (text : List ℕ) (root : Located) (made : List ℕ)
     : Type 0 where
   pub target : PathStep
   pub only : insertion_sets_in steps ≡ target ∷ []
   pub added : IsAddedTo is_forced form value path starts target text root made
 
--- the only entry that defines the attribute, of sets or of a `let`, defines all of it, and its value is set
+-- the only entry that defines the attribute, among those of sets or of a `let`, defines all of it, and its value is set
 pub record IsOnlySet (of_let : Bool) (update : Update) (names : List (List ℕ)) (steps : List PathStep) (text : List ℕ) (root : Located) (made : List ℕ)
     : Type 0 where
   pub definition : Definition
   pub only : definitions_in names of_let steps ≡ definition ∷ []
   pub is_set : IsEntrySet update.form update.value.now text root definition made
 
--- what an action makes of the attribute that a single entry defines
+-- the result of an action on the attribute that a single entry defines
 abbrev pub IsDefinitionUpdated : Action → Update → List ℕ → Located → Definition → List ℕ → Type 0
 IsDefinitionUpdated action.Remove update text root definition made = IsEntryRemoved update.is_forced text root definition made
 IsDefinitionUpdated action.Set update text root definition made = IsEntrySet update.form update.value.now text root definition made
 IsDefinitionUpdated action.Add update text root definition made = IsEntrySet update.form update.value.now text root definition made
 
--- P holds of the new text, if there is one
+-- P holds for the new text, if there is one
 abbrev pub IfMade : (List ℕ → Type 0) → Attempt → Type 0
 IfMade P (attempt.Made made) = P (string_bytes made)
 IfMade P (attempt.Refused refused) = Unit {0}
 
--- P holds of the new text, if there is one in which no name of a `let` is set
+-- P holds for the new text, if there is one in which no name of a `let` is set
 abbrev pub IfUpdated : (List ℕ → Type 0) → Outcome → Type 0
 IfUpdated P (outcome.Updated made) = P (string_bytes made)
 IfUpdated P (outcome.SetInLet made offset) = Unit {0}
 IfUpdated P (outcome.Refused refused) = Unit {0}
 
--- P holds of the new text, if there is one in which a name of a `let` is set
+-- P holds for the new text, if there is one in which a name of a `let` is set
 abbrev pub IfSetInLet : (List ℕ → Type 0) → Outcome → Type 0
 IfSetInLet P (outcome.Updated made) = Unit {0}
 IfSetInLet P (outcome.SetInLet made offset) = P (string_bytes made)
 IfSetInLet P (outcome.Refused refused) = Unit {0}
 
--- the result of an attempt
+-- an attempt as an outcome
 abbrev pub outcome_of : Attempt → Outcome
 outcome_of (attempt.Made made) = outcome.Updated made
 outcome_of (attempt.Refused refused) = outcome.Refused refused
 
--- what an update makes of an attribute that no entry defines: it is added, or the value of a name of a `let` is set
+-- the result of an update of an attribute that no entry defines: it is added, or the value of a name of a `let` is set
 abbrev pub IsUndefinedUpdated : Update → List (List ℕ) → List ℕ → List ℕ → List PathStep → List ℕ → Located → Outcome → Type 0
 IsUndefinedUpdated update names path starts steps text root (outcome.Updated made) =
     (update.action ≡ action.Add)
@@ -194,18 +194,18 @@ IsUndefinedUpdated update names path starts steps text root (outcome.SetInLet ma
     (update.action ≡ action.Set) × IsOnlySet true update names steps text root (string_bytes made)
 IsUndefinedUpdated update names path starts steps text root (outcome.Refused refused) = Unit {0}
 
--- a single entry of sets defines the attribute, or a part of it, and it is updated
+-- a single entry of a set defines the attribute, or a part of it, and is updated
 pub record IsSingleUpdated (update : Update) (names : List (List ℕ)) (steps : List PathStep) (text : List ℕ) (root : Located) (made : List ℕ) : Type 0 where
   pub definition : Definition
   pub only : definitions_in names false steps ≡ definition ∷ []
   pub is_updated : IsDefinitionUpdated update.action update text root definition made
 
--- no entry of sets defines it
+-- no entry of a set defines the attribute
 abbrev pub IsNoneUpdated : Update → List (List ℕ) → List ℕ → List ℕ → List PathStep → List ℕ → Located → Outcome → Type 0
 IsNoneUpdated update names path starts steps text root made =
     (definitions_in names false steps ≡ []) × IsUndefinedUpdated update names path starts steps text root made
 
--- what an update makes of a text, given the names of its path and the expressions along it
+-- the result of an update of a text, given the names of its path and the expressions on it
 abbrev pub IsOutcome : Update → List (List ℕ) → List ℕ → List ℕ → List PathStep → List ℕ → Located → Outcome → Type 0
 IsOutcome update names path starts steps text root (outcome.Updated made) =
     IsSingleUpdated update names steps text root (string_bytes made) ⊎ IsNoneUpdated update names path starts steps text root (outcome.Updated made)
@@ -213,7 +213,7 @@ IsOutcome update names path starts steps text root (outcome.SetInLet made offset
     IsNoneUpdated update names path starts steps text root (outcome.SetInLet made offset)
 IsOutcome update names path starts steps text root (outcome.Refused refused) = Unit {0}
 
--- an outcome is that of an update of a text, which is read without errors
+-- an outcome is that of the update of a text, which is parsed without errors
 pub record IsOutcomeOf (update : Update) (text : List ℕ) (made : Outcome) : Type 0 where
   pub names : List (List ℕ)
   pub starts : List ℕ
@@ -224,7 +224,7 @@ pub record IsOutcomeOf (update : Update) (text : List ℕ) (made : Outcome) : Ty
   pub are_steps : ArePathSteps names (root_in tree) steps
   pub is_outcome : IsOutcome update names update.path.now starts steps text (root_in tree) made
 
--- a new text is that of an update
+-- a new text is the result of an update
 abbrev pub IsUpdated : Update → List ℕ → Outcome → Type 0
 IsUpdated update text (outcome.Refused refused) = Unit {0}
 IsUpdated update text (outcome.Updated made) = IsOutcomeOf update text (outcome.Updated made)

@@ -4,7 +4,7 @@ use Rattle.std.specs.Str.{NoCharPasses, EmptyOrStartsWithPassing}
 use Rattle.std.specs.Char.{is_whitespace, is_not_whitespace}
 use Rattle.rnix_base.specs.Quoted.{nix_string, IsQuoted}
 
--- a text is white space, a word, and a rest, which is empty or begins with white space
+-- a text consists of white space, a word, and a rest, which is empty or begins with white space
 pub record StartsWithWord (text word rest : List ℕ) : Type 0 where
   pub gap : List ℕ
   pub split : text ≡ gap ++ (word ++ rest)
@@ -22,11 +22,11 @@ AreWords text (word ∷ words) = (rest : List ℕ) × StartsWithWord text word r
 abbrev pub item_text : List ℕ → List ℕ
 item_text word = nix_string word ++ codes " "
 
--- the list of the strings of some words
+-- the list of some words as strings
 abbrev pub list_text : List (List ℕ) → List ℕ
 list_text words = codes "[ " ++ (flat_map item_text words ++ codes "]")
 
--- a text is the list of the strings of the words of a value, in order
+-- a text is the list of the words of a value as strings, in order
 pub record IsListOf (value text : List ℕ) : Type 0 where
   pub words : List (List ℕ)
   pub are_words : AreWords value words

@@ -64,7 +64,7 @@ fn accept_added(
     }
 }
 
-// Adds the attribute to the set `target`, the only one to which the most names of its path lead.
+// Adds the attribute to the set `target`, the only one to which the largest number of names of its path lead.
 fn add_to(
     alloc: Global,
     text: &str,
@@ -95,7 +95,7 @@ fn add_to(
     accept_added(alloc, site, update.is_forced, made)
 }
 
-/// Adds the attribute to the set to which the most names of its path lead, if there is just one.
+/// Adds the attribute to the set to which the largest number of names of its path lead, if there is only one.
 pub fn add(
     alloc: Global,
     text: &str,

@@ -20,7 +20,7 @@ pub struct Definition<'t> {
     pub at: usize,
 }
 
-// Returns whether an expression along the path has entries: those that names of a `let` lead to if `of_let`, otherwise those of sets.
+// Returns whether an expression along the path has entries: those to which names of a `let` lead if `of_let`, otherwise those of sets.
 fn has_entries(step: &PathStep<'_>, of_let: bool) -> bool
     ensures { result ≡ has_entries of_let step.now }
 {
@@ -69,7 +69,7 @@ fn add_definitions<'t>(
     Ok(())
 }
 
-// Adds the entries of an expression along the path that define the attribute: those that names of a `let` lead to if `of_let`, otherwise those of sets.
+// Adds the entries of an expression along the path that define the attribute: those to which names of a `let` lead if `of_let`, otherwise those of sets.
 fn add_definitions_if<'t>(
     alloc: Global,
     names: &[String],
@@ -85,7 +85,7 @@ fn add_definitions_if<'t>(
     Ok(())
 }
 
-/// Returns the entries along a path that define its attribute: those that names of a `let` lead to if `of_let`, otherwise those of sets.
+/// Returns the entries along a path that define its attribute: those to which names of a `let` lead if `of_let`, otherwise those of sets.
 pub fn definitions_of<'t>(
     alloc: Global,
     names: &[String],

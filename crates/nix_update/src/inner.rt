@@ -12,7 +12,7 @@ use rnix::ast::{AstNode, BinOp, BinOpKind, Expr};
 use rnix::{SyntaxKind, SyntaxNode};
 use rnix_base::child_at;
 
-/// Returns the child expression of a node with a number, from 0.
+/// Returns the child expression with an index in a node.
 pub fn expr_at<'t>(node: &SyntaxNode<'t>, number: usize) -> Option<SyntaxNode<'t>>
     ensures { result ≡ child_of is_expr number node.now }
 {

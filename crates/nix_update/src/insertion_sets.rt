@@ -41,7 +41,7 @@ fn add_insertion_set<'t>(
     Ok(())
 }
 
-/// Returns the sets along a path to which the most names lead: a new attribute is added to one of them.
+/// Returns the sets along a path to which the largest number of names lead: a new attribute is added to one of them.
 pub fn insertion_sets<'t>(
     alloc: Global,
     steps: &[PathStep<'t>],
@@ -56,7 +56,7 @@ pub fn insertion_sets<'t>(
     Ok(sets)
 }
 
-/// Returns the last expression along the path to which the most names of the path lead, or the root if there is none.
+/// Returns the last expression along the path to which the largest number of names lead, or the root if there is none.
 pub fn deepest_node<'t>(steps: &[PathStep<'t>], root: &SyntaxNode<'t>) -> SyntaxNode<'t> {
     let most = longest_prefix(steps);
     let mut last = root.clone();

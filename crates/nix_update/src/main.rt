@@ -138,7 +138,7 @@ fn refuse_update(rt: &HostRuntime, name: &str, text: &str, refused: Refused) -> 
     Ok(if reason.is_failure() { FAILED } else { FOUND })
 }
 
-// What is reported where the value of a name of a `let` is set.
+// The message for the case that the value of a name of a `let` is set.
 const SET_IN_LET: &str = "no attribute has this path: this name of a `let` is set";
 
 // Writes the updated text of a file.

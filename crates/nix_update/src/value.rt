@@ -13,11 +13,11 @@ use std::alloc::{AllocError, Global};
 /// The form in which a new value is given.
 #[derive(Clone, Copy, PartialEq, Eq)]
 pub enum Form {
-    /// A string of the text.
+    /// The text as a string.
     Text,
-    /// A list of strings, separated by white space in the text.
+    /// A list of the words of the text, which white space separates, as strings.
     List,
-    /// The expression that the text is.
+    /// The text as an expression.
     Raw,
 }
 

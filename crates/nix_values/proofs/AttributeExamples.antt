@@ -1,4 +1,4 @@
--- Rows of small tables and data, with what is found in them.
+-- Small tables and data, with what is found in them.
 use Rattle.std.proofs.Common.{◌≡◌, ℕ, List, [], ◌∷◌, Some, None, refl}
 use Rattle.nix_values.specs.declared.slots.Slot.{Slot}
 use Rattle.nix_values.specs.declared.slots.Spot.TheVariants.{Free, Taken, Full}
@@ -46,7 +46,7 @@ of_the_inner_set = refl
 not_of_the_outer_set : attribute_of twice 0 (98 ∷ []) ≡ None
 not_of_the_outer_set = refl
 
--- what is inside a list is no attribute
+-- a value in a list is not an attribute
 of_no_list : attribute_of (whole list ∷ inside 0 (97 ∷ []) (integer (pos 1)) ∷ []) 0 (97 ∷ []) ≡ None
 of_no_list = refl
 

@@ -1,4 +1,4 @@
--- Attributes that are added to others one by one.
+-- Attributes of one index that are added to another, one by one.
 use Rattle.std.proofs.Common.{◌≡◌, ◌∙◌, ℕ, ◌+◌, ◌<◌, ◌≤◌, length, Bool, true, false, List, [], ◌∷◌, Option, Some, None, ◌⊎◌, inl, inr, ⊎_elim, sym, refl, ap, ap₂, subst, arith}
 use Rattle.std.specs.Map.{lookup, values_of}
 use Rattle.std.specs.Ordering.{nat_cmp}
@@ -19,7 +19,7 @@ use Rattle.nix_values.proofs.AttributeInsertLemmas.{same_pair, hash_is}
 use Rattle.nix_values.proofs.SlotLemmas.{Holds, taken_in}
 use Rattle.nix_values.proofs.AttributeLemmas.{hash_key, reached_at, key_is, key_yes, same_key, same_is, found_taken, found_cases, found_key}
 
--- ---- attributes that are within others
+-- ---- attributes that another index has, too
 
 pub within_with : (keys : Keys) (a b others : Attributes) (s : ℕ) (n : List ℕ) (m : ℕ) → IsWith keys a s n m b → IsWithin keys a others →
     found_in others keys s n ≡ Some m → IsWithin keys b others
@@ -56,7 +56,7 @@ slot_found keys a i s n sound taken key =
     let hash : attribute_hash s n ≡ slot.hash = hash_is keys slot.number slot.hash s n (sound.hashed slot.hash i slot.number spot) key in
     found_taken keys a s n i slot.number (ap (spot_of a.slots) hash ∙ spot) (key_yes (keys slot.number) s n key)
 
--- a value that is found in others is found in no other way
+-- if another index finds a value as its own attribute, no other value is found as that attribute
 pub new_within : (keys : Keys) (a others : Attributes) (m : ℕ) → IsWithin keys a others →
     ((s : ℕ) (n : List ℕ) → keys m ≡ Some (s, n) → found_in others keys s n ≡ Some m) → IsNew keys a m
 new_within keys a others m within there = λ s n x key e. same_Some x m (sym (within s n x e) ∙ there s n key)
@@ -66,7 +66,7 @@ both_within (Some x) r there back = sym (there x refl)
 both_within None None there back = refl
 both_within None (Some x) there back = back x refl
 
--- the slots and the crowded are all
+-- the attributes in slots and the crowded ones are all attributes
 pub grown_same : (keys : Keys) (old middle new : Attributes) → IsConsistent keys old → AreSlotsAdded keys old middle → AreCrowdedAdded keys old middle new →
     IsSame keys old new
 grown_same keys old middle new sound slots crowded = record {
@@ -82,9 +82,9 @@ grown_same keys old middle new sound slots crowded = record {
       (found_cases keys old s n x e));
 }
 
--- ---- the slots of others, one by one
+-- ---- the slots of another index, one by one
 
--- the attributes of the first slots are added
+-- the attributes in the first slots have been added
 pub record IsAddedTill (keys : Keys) (others new : Attributes) (count : ℕ) : Type 0 where
   pub sound : IsConsistent keys new
   pub within : IsWithin keys new others
@@ -189,9 +189,9 @@ module _ (keys : Keys) (others : Attributes) (items : List Slot) (i : ℕ) (d : 
   pub entry_free : (new : Attributes) → None ≡ slot_entry (get_or items i d) → IsAddedTill keys others new i → IsAddedTill keys others new (i + 1)
   entry_free new e till = till_free keys others new i till (entry_none (slot_at others.slots.slots.items i) (e ∙ ap slot_entry item_is))
 
--- ---- the crowded of others, one by one
+-- ---- the crowded attributes of another index, one by one
 
--- a value that is not found in others
+-- a value that the other index does not find
 pub found_none : (keys : Keys) (others a : Attributes) (m : ℕ) → IsConsistent keys a → IsWithin keys a others →
     ((s : ℕ) (n : List ℕ) → found_in others keys s n ≡ Some m → ⊥) → IsFoundAdded keys others m a a
 found_none keys others a m sound within none = record {
@@ -213,7 +213,7 @@ found_added keys others a b m t k sound within key there added =
       all = λ s n e. with_finds keys a b s n m (added s n (found_key keys others s n m sound e));
     }
 
--- a value of another name, or of none
+-- a value that is not found as its own attribute, or is not an attribute, is not found at all
 pub found_other_key : (keys : Keys) (others : Attributes) (m t : ℕ) (k : List ℕ) → IsConsistent keys others → keys m ≡ Some (t, k) →
     (found_in others keys t k ≡ Some m → ⊥) → (s : ℕ) (n : List ℕ) → found_in others keys s n ≡ Some m → ⊥
 found_other_key keys others m t k sound key none s n e =
@@ -225,7 +225,7 @@ pub found_no_key : (keys : Keys) (others : Attributes) (m : ℕ) → IsConsisten
 found_no_key keys others m sound none s n e =
     none-some {A = ℕ × List ℕ} (s, n) (sym none ∙ found_key keys others s n m sound e)
 
--- all but some of the values of a name are added
+-- all but the remaining values with a name have been added
 pub record AreSetsTill (keys : Keys) (others : Attributes) (sets : BTreeMap ℕ ℕ) (old new : Attributes) (remaining : List ℕ) : Type 0 where
   pub sound : IsConsistent keys new
   pub within : IsWithin keys new others
@@ -269,7 +269,7 @@ sets_all keys others sets old new remaining till none = record {
   all = λ s n m one e. ⊎_elim (λ rest. absurd (subst (λ xs. IsOneOf xs m) none rest)) (λ done. done s n e) (till.all m one);
 }
 
--- all but some names are added
+-- all but the remaining names have been added
 pub record AreNamesTill (keys : Keys) (others old new : Attributes) (remaining : List (BTreeMap ℕ ℕ)) : Type 0 where
   pub sound : IsConsistent keys new
   pub within : IsWithin keys new others
@@ -302,7 +302,7 @@ names_added keys others old middle new before remaining sets is till added = rec
       (till.all x one);
 }
 
--- ---- what is looked up is one of the values
+-- ---- a value that is found is one of the values
 
 pub one_of : {K X : Type 0} (test : K → Bool) (es : List (K × X)) (x : X) → lookup test es ≡ Some x → IsOneOf (values_of es) x
 one_of test [] x e = absurd (cc)

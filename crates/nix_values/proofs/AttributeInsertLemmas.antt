@@ -1,4 +1,4 @@
--- Attributes after a value is inserted.
+-- An index of attributes after a value is inserted.
 use Rattle.std.proofs.Common.{◌≡◌, ◌≢◌, ◌∙◌, ℕ, Bool, true, false, cond, List, Option, Some, None, ⊎_elim, sym, refl, ap, ap₂, subst}
 use Rattle.std.specs.Prelude.{if◌then◌else◌}
 use Rattle.std.proofs.lemmas.Bool.{cases_Bool, cond-true, cond-false, both_ways}
@@ -49,7 +49,7 @@ empty_finds keys a none free = λ s n.
 pub empty_within : (keys : Keys) (a others : Attributes) → HasNone a.slots → HasNoCrowded a.crowded → IsWithin keys a others
 empty_within keys a others none free = λ s n m e. absurd (no_some m (found_in a keys s n) (empty_finds keys a none free s n) e)
 
--- ---- values of which more are attributes
+-- ---- values with more attributes
 
 abbrev pub Extends : Keys → Keys → Type 0
 Extends keys later = (n : ℕ) (key : ℕ × List ℕ) → keys n ≡ Some key → later n ≡ Some key
@@ -79,7 +79,7 @@ later_finds keys later a sound more s n =
     rest)
     (spot_cases (spot_at a s n))
 
--- ---- the place of an attribute
+-- ---- where an attribute is
 
 pub probe_free : (r : Spot) (keys : Keys) (s : ℕ) (n : List ℕ) (i : ℕ) → probe_of r keys s n ≡ probe.Free i → r ≡ Free i
 probe_free (Free j) keys s n i e = cc
@@ -119,12 +119,12 @@ probe_crowded r keys s n e = (
     taken_probe : (i m : ℕ) → probe.Taken i m ≡ probe.Crowded → ⊥
     taken_probe i m wrong = absurd (cc)
 
--- ---- one more
+-- ---- one more attribute
 
 pub same_pair : (keys : Keys) (m s t : ℕ) (n k : List ℕ) → keys m ≡ Some (s, n) → keys m ≡ Some (t, k) → (s ≡ t) × (n ≡ k)
 same_pair keys m s t n k e f = some_pair_parts s t n k (sym e ∙ f)
 
--- the hash of an attribute
+-- the hash of an attribute is that of its set and name
 pub hash_is : (keys : Keys) (m h s : ℕ) (n : List ℕ) → HasHash keys m h → keys m ≡ Some (s, n) → attribute_hash s n ≡ h
 hash_is keys m h s n has e =
     let k = hash_key keys m h has in
@@ -149,7 +149,7 @@ added_crowded keys a b m h t k sound has number new none slots is more = λ s n 
     (λ i f. none i (sym (ap (spot_of a.slots) hash) ∙ f))
     (λ i x e right. new s n x key (found_taken keys a s n i x e right))
 
--- ---- a value that is inserted, of which values hold no key yet
+-- ---- inserting a value that the values do not contain yet
 
 module _ (keys later : Keys) (a b : Attributes) (s : ℕ) (n : List ℕ) (m : ℕ) (sound : IsConsistent keys a) (more : Extends keys later)
     (number : m ≢ FREE) (key : later m ≡ Some (s, n)) where
@@ -176,7 +176,7 @@ module _ (keys later : Keys) (a b : Attributes) (s : ℕ) (n : List ℕ) (m : �
       with_crowded later a b s n m (later_sound keys later a sound more) slots with_it number key there.0
       (λ i x e is. absurd (there.1 i x e (later_key i x e is)))
 
--- a value that is inserted after others were moved
+-- a value that is inserted after the others were moved
 pub inserted_same : (keys : Keys) (old middle new : Attributes) (s : ℕ) (n : List ℕ) (m : ℕ) → IsConsistent keys old → IsSame keys old middle →
     IsInserted keys middle s n m new → IsInserted keys old s n m new
 inserted_same keys old middle new s n m sound same inserted = λ later more key.

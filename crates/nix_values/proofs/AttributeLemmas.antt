@@ -1,4 +1,4 @@
--- Where attributes are found.
+-- Where the attributes of an index are found.
 use Rattle.std.proofs.Common.{◌≡◌, ◌≢◌, ◌∙◌, ℕ, ◌==◌, ◌&&◌, Bool, true, false, cond, List, Option, Some, None, ◌⊎◌, inl, inr, ⊎_elim, sym, refl, ap, ap₂, option_map}
 use Rattle.std.specs.Str.{bytes_eq}
 use Rattle.std.proofs.Math.ListN.{set}
@@ -31,7 +31,7 @@ pub key_yes : (o : Option (ℕ × List ℕ)) (s : ℕ) (n : List ℕ) → o ≡ 
 key_yes o s n e =
     ap (λ k. is_key k s n) e ∙ and_from (s == s) (bytes_eq n n) (eq-eqb s s refl) ((bytes_eq-Decides n n).1 refl)
 
--- whether two attributes are the same one
+-- whether both attributes have the same set and name
 abbrev pub same_key : ℕ → List ℕ → ℕ → List ℕ → Bool
 same_key set name s n = set == s && bytes_eq name n
 
@@ -40,13 +40,13 @@ same_is set s name n e =
     let parts : ((set == s) ≡ true) × (bytes_eq name n ≡ true) = and_parts (set == s) (bytes_eq name n) e in
     (eqb-true set s parts.0, (bytes_eq-Decides name n).0 parts.1)
 
--- the key of another attribute
+-- a value with another set or name does not match
 pub other_key : (o : Option (ℕ × List ℕ)) (set s : ℕ) (name n : List ℕ) → o ≡ Some (set, name) → same_key set name s n ≡ false → is_key o s n ≡ false
 other_key o set s name n e other = ap (λ k. is_key k s n) e ∙ other
 
 -- ---- hashes
 
--- the key of a value with a hash
+-- a value with a hash is an attribute
 pub hash_key : (keys : Keys) (m h : ℕ) → HasHash keys m h → (s : ℕ) × (n : List ℕ) × (keys m ≡ Some (s, n)) × (attribute_hash s n ≡ h)
 hash_key keys m h e = by (keys m) refl
   where
@@ -98,7 +98,7 @@ module _ (keys : Keys) (a : Attributes) (s : ℕ) (n : List ℕ) where
       ap (λ r. number_at (probe_of r keys s n) (crowded_at a s n)) e
       ∙ ap (λ p. number_at p (crowded_at a s n)) (cond-false (is_key (keys m) s n) _ _ key)
 
-  -- what is found is found in a slot or among the crowded
+  -- a value that is found is in a slot or among the crowded
   pub found_cases : (m : ℕ) → found_in a keys s n ≡ Some m →
       ((i : ℕ) × (spot_at a s n ≡ Taken i m) × (is_key (keys m) s n ≡ true)) ⊎ (crowded_at a s n ≡ Some m)
   found_cases m e =
@@ -131,7 +131,7 @@ found_number keys a s n m sound e =
     (λ c. (sound.named s n m c).1)
     (found_cases keys a s n m e)
 
--- no crowded one has the hash of a search that ends at a free slot
+-- if the search for an attribute ends at a free slot, no crowded one has its set and name
 pub crowded_none : (keys : Keys) (a : Attributes) (s : ℕ) (n : List ℕ) (i : ℕ) → IsConsistent keys a → spot_at a s n ≡ Free i → crowded_at a s n ≡ None
 crowded_none keys a s n i sound e = by (crowded_at a s n) refl
   where
@@ -139,14 +139,14 @@ crowded_none keys a s n i sound e = by (crowded_at a s n) refl
     by None is = is
     by (Some m) is = absurd (sound.crowded s n m i is e)
 
--- the same search and the same crowded ones find the same
+-- two indexes with the same search and the same crowded attributes find the same value
 pub found_same : (keys : Keys) (a b : Attributes) (s : ℕ) (n : List ℕ) → spot_at b s n ≡ spot_at a s n → crowded_at b s n ≡ crowded_at a s n →
     found_in b keys s n ≡ found_in a keys s n
 found_same keys a b s n spot crowded =
     ap (λ r. number_at (probe_of r keys s n) (crowded_at b s n)) spot
     ∙ ap (λ o. number_at (probe_of (spot_at a s n) keys s n) o) crowded
 
--- a search that ends at a taken slot, or at none, ends at no free one
+-- a search that ends at a taken slot or finds all slots taken does not end at a free one
 pub ends_taken : (r : Spot) → ((i : ℕ) × (m : ℕ) × (r ≡ Taken i m)) ⊎ (r ≡ Full) → (j : ℕ) → r ≡ Free j → ⊥
 ends_taken r (inl t) j wrong = let both : Taken t.0 t.1 ≡ Free j = sym t.2 ∙ wrong in absurd (cc)
 ends_taken r (inr f) j wrong = let both : Full ≡ Free j = sym f ∙ wrong in absurd (cc)
@@ -157,7 +157,7 @@ free_not j i m wrong = absurd (cc)
 pub taken_probe : (i p m x : ℕ) → Taken i m ≡ Taken p x → i ≡ p
 taken_probe i p m x e = cc
 
--- with another one, where a test tells which
+-- a choice between two values, by a test
 pub choose : (b : Bool) (m : ℕ) (o r : Option ℕ) → (b ≡ true → r ≡ Some m) → (b ≡ false → r ≡ o) → r ≡ cond b (Some m) o
 choose true m o r right wrong = right refl
 choose false m o r right wrong = wrong refl

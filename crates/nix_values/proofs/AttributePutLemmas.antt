@@ -1,4 +1,4 @@
--- Attributes after a value is put into a slot or among the crowded.
+-- An index of attributes after a value is put into a slot or among the crowded.
 use Rattle.std.proofs.Common.{◌≡◌, ◌≢◌, ◌∙◌, ℕ, true, false, cond, List, Some, None, ⊎_elim, sym, refl, ap, ap₂, ◌<◌, length}
 use Rattle.std.proofs.lemmas.Bool.{cases_Bool, cases_eq, cond-true, cond-false, ne_eqb}
 use Rattle.std.proofs.lemmas.Option.{same_Some}
@@ -61,7 +61,7 @@ module _ (keys : Keys) (a b : Attributes) (s : ℕ) (n : List ℕ) (m p : ℕ) (
       ∙ was ∙ ap (λ x. Taken i x.number) (sym slot))
       (cases_eq i p)
 
-  -- another hash whose search ended at a free slot is not in the table
+  -- a hash whose search ended at a free slot is not in the table, except that of the new attribute
   free_apart : (g i x j : ℕ) → spot_of a.slots g ≡ Free j → (g ≡ attribute_hash s n → ⊥) → spot_of b.slots g ≡ Taken i x → ⊥
   free_apart g i x j was other is =
       let holds : Holds b.slots.slots.items g i x = taken_in b.slots.slots.items _ g i x is in
@@ -90,7 +90,7 @@ module _ (keys : Keys) (a b : Attributes) (s : ℕ) (n : List ℕ) (m p : ℕ) (
       (spot_cases (spot_of a.slots g)))
       (cases_eq g (attribute_hash s n))
 
-  -- another attribute is not found in a slot of a search that ended at a free one
+  -- if the search for another attribute ended at a free slot, the attribute is not found
   free_none : (t : ℕ) (k : List ℕ) (i : ℕ) → same_key s n t k ≡ false → spot_at a t k ≡ Free i → found_in b keys t k ≡ None
   free_none t k i apart was =
       let none : crowded_at b t k ≡ None = ap (λ o. crowded_in o t k) rest ∙ crowded_none keys a t k i sound was in
@@ -138,7 +138,7 @@ module _ (keys : Keys) (a b : Attributes) (s : ℕ) (n : List ℕ) (m p : ℕ) (
     finds = free_finds;
   }
 
--- ---- a value in the slot of another one that is the same attribute
+-- ---- a value in the slot of another value for the same attribute
 
 module _ (keys : Keys) (a b : Attributes) (s : ℕ) (n : List ℕ) (m p x : ℕ) (sound : IsConsistent keys a)
     (ended : spot_at a s n ≡ Taken p x) (before : keys x ≡ Some (s, n)) (put : IsPut a.slots p (attribute_hash s n) m b.slots)
@@ -232,7 +232,7 @@ module _ (keys : Keys) (a b : Attributes) (s : ℕ) (n : List ℕ) (m p x : ℕ)
 
 -- ---- a value among the crowded
 
--- the slots are as they were
+-- unchanged slots stay consistent
 sound_slots : (keys : Keys) (a b : Attributes) → b.slots ≡ a.slots → IsConsistent keys a →
     ((t : ℕ) (k : List ℕ) (y : ℕ) → crowded_at b t k ≡ Some y → (keys y ≡ Some (t, k)) × (y ≢ FREE)) →
     ((t : ℕ) (k : List ℕ) (y i : ℕ) → crowded_at b t k ≡ Some y → spot_at a t k ≡ Free i → ⊥) → IsConsistent keys b
@@ -304,7 +304,7 @@ module _ (keys : Keys) (a b : Attributes) (s : ℕ) (n : List ℕ) (m : ℕ) (so
         (λ other. found_same keys a b t k (ap (λ x. spot_of x (attribute_hash t k)) slots) (more_other t k other));
   }
 
--- no value was put among the crowded
+-- if nothing changed among the crowded, the index finds the same attributes
 pub same_crowded : (keys : Keys) (a b : Attributes) → IsConsistent keys a → b.slots ≡ a.slots → IsSameCrowded a.crowded b.crowded → IsSame keys a b
 same_crowded keys a b sound slots same = record {
   sound = sound_slots keys a b slots sound

@@ -1,4 +1,4 @@
--- Which attributes values are, after one more is added.
+-- The attributes among values after one more is added.
 use Rattle.std.proofs.Common.{◌≡◌, ◌∙◌, ℕ, zero, suc, ◌<◌, ◌≤◌, ◌&&◌, true, false, cond, List, [], ◌∷◌, ◌++◌, length, Option, Some, None, ⊎_elim, sym, refl, ap, ap₂, arith}
 use Rattle.std.specs.Prelude.{nat_lt, slice_get, option_and_then, if◌then◌else◌}
 use Rattle.std.proofs.lemmas.Bool.{cases_Bool, cases_lt, cond-true, cond-false, ltb-true, lt-ltb, and_from, and_left, and_right}
@@ -11,7 +11,7 @@ use Rattle.nix_values.specs.IndexedAttributes.{found_in, IsConsistent, IsInserte
 use Rattle.nix_values.specs.Index.{IsIndex}
 use Rattle.nix_values.proofs.AttributeInsertLemmas.{Extends, later_sound, later_finds}
 
--- ---- a list with one more at its end
+-- ---- a list with one more element
 
 pub get_last : {X : Type 0} (xs : List X) (y : X) → slice_get (xs ++ y ∷ []) (length xs) ≡ Some y
 get_last [] y = refl
@@ -25,7 +25,7 @@ get_before (x ∷ xs) y (suc i) other = get_before xs y i (λ e. other (ap suc e
 
 -- ---- keys
 
--- the key of a value with a name that is inside another one
+-- the set and the name of a value with a parent
 abbrev key_by : List Built → ℕ → List ℕ → Option ℕ → Option (ℕ × List ℕ)
 key_by values number name parent =
     option_and_then {U = ℕ × List ℕ} (λ p. if nat_lt p number && is_set_at values p then Some (p, name) else None) parent
@@ -36,7 +36,7 @@ key_at values number found = key_by values number found.name found.parent
 set_before : (values : List Built) (b : Built) (p : ℕ) → (p ≡ length values → ⊥) → is_set_at (values ++ b ∷ []) p ≡ is_set_at values p
 set_before values b p other = ap is_set_found (get_before values b p other)
 
--- a value before the added one is the attribute that it was
+-- adding a value does not change which attributes the values before it are
 key_at_before : (values : List Built) (b found : Built) (i : ℕ) → i ≤ length values → key_at (values ++ b ∷ []) i found ≡ key_at values i found
 key_at_before values b found i inside = by found.parent
   where
@@ -74,7 +74,7 @@ key_last values b =
     ap (option_and_then (key_at (values ++ b ∷ []) (length values))) (get_last values b)
     ∙ key_at_before values b b (length values) (omega arith)
 
--- the value at the end is an attribute of the set that it is inside
+-- the last value is an attribute of the set that contains it
 pub key_in_set : (values : List Built) (b : Built) (p : ℕ) → b.parent ≡ Some p → is_set_at values p ≡ true →
     keys_of (values ++ b ∷ []) (length values) ≡ Some (p, b.name)
 key_in_set values b p inside is_set =
@@ -131,7 +131,7 @@ extends values b = λ i key e. key_before values b i (λ is. wrong i key is e) �
 pub index_empty : (a : Attributes) → IsConsistent (keys_of []) a → ((s : ℕ) (n : List ℕ) → found_in a (keys_of []) s n ≡ None) → IsIndex [] a
 index_empty a sound none = record { sound = sound; finds = none }
 
--- a value that is no attribute
+-- adding a value that is not an attribute
 pub index_other : (values : List Built) (b : Built) (a : Attributes) → IsIndex values a → keys_of (values ++ b ∷ []) (length values) ≡ None →
     IsIndex (values ++ b ∷ []) a
 index_other values b a index none = record {
@@ -142,7 +142,7 @@ index_other values b a index none = record {
       ∙ sym (last_more values b s n ∙ ap (λ k. cond (is_key k s n) (Some (length values)) (attribute_of values s n)) none);
 }
 
--- a value that is inserted
+-- adding a value that is inserted into the index
 pub index_inserted : (values : List Built) (b : Built) (a new : Attributes) (p : ℕ) → IsIndex values a →
     keys_of (values ++ b ∷ []) (length values) ≡ Some (p, b.name) → IsInserted (keys_of values) a p b.name (length values) new →
     IsIndex (values ++ b ∷ []) new

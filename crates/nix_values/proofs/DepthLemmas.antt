@@ -1,4 +1,4 @@
--- The values with the numbers of an order, with their depths.
+-- The values with the numbers of an order, and their depths.
 use Rattle.std.proofs.Common.{◌≡◌, ◌∙◌, ℕ, zero, suc, ◌+◌, ◌<◌, ◌≤◌, Bool, true, eqb, List, [], ◌∷◌, ◌++◌, length, map, get_or, drop, flat_map, slice_get, option_to_list, Option, Some, None, ⊎_elim, sym, refl, ap, ap₂, subst, eqb-true, eq-eqb, ne_eqb, lt-ltb, string_bytes, add-one, append_assoc, arith}
 use Rattle.std.specs.List.{range_with_len}
 use Rattle.std.specs.Prelude.{nat_lt}
@@ -100,7 +100,7 @@ tree_entries nodes levels depth child =
 abbrev tree_numbers : List Node → ℕ → ℕ → List ℕ
 tree_numbers nodes levels n = n ∷ numbers_in levels (groups_of (map built_of nodes)) (suc n)
 
--- the values inside a parent are those with the numbers of its group, and so on inside each
+-- the values inside a parent are those with the numbers of its group, and likewise inside each of them
 abbrev Described : List Node → ℕ → Option ℕ → Type 0
 Described nodes levels parent =
     descendants levels (map built_of nodes) (depth_under nodes parent) parent
@@ -162,7 +162,7 @@ entries_all nodes = each 0 nodes refl
         ap₂ (λ (a b : List Entry). a ++ b) (ap found_entry (drop_get nodes k x rest e))
         (ap (λ n. entries_at nodes (range_with_len n (length rest))) (add-one k) ∙ each (suc k) rest (drop_next nodes k x rest e))
 
--- values that were added in this order stay as they are
+-- values that were added in preorder stay in this order
 pub preorder_all : (nodes : List Node) → HaveDepths nodes → order_of (groups_of (map built_of nodes)) ≡ range_with_len 0 (length nodes) →
     map entry_in nodes ≡ preorder (map built_of nodes)
 preorder_all nodes deep same = sym (entries_all nodes) ∙ sym (ap (entries_at nodes) same) ∙ preorder_is nodes deep
@@ -172,7 +172,7 @@ preorder_all nodes deep same = sym (entries_all nodes) ∙ sym (ap (entries_at n
 pub depths_none : HaveDepths []
 depths_none number node e = absurd (cc)
 
--- the depth of what is inside a value, before which all others come
+-- a new value inside this one is one deeper
 pub depth_known : (nodes : List Node) → HaveDepths nodes → (parent : ℕ) (node : Node) → slice_get nodes parent ≡ Some node →
     (depth_under nodes (parent_before (length nodes) (Some parent)) ≡ suc node.depth) × (suc node.depth ≤ length nodes)
 depth_known nodes deep parent node is =
@@ -231,16 +231,16 @@ depths_added nodes deep new right within k x is =
     })
     (cases_Bool (eqb k (length nodes)))
 
--- ---- values that are taken out
+-- ---- taking values out
 
--- a value that was taken does not change the others
+-- taking a value does not change the others
 entries_other : (nodes later : List Node) (n : ℕ) (ns : List ℕ) → ((k : ℕ) → (n ≡ k → ⊥) → slice_get later k ≡ slice_get nodes k) → IsNoneOf n ns →
     entries_at later ns ≡ entries_at nodes ns
 entries_other nodes later n [] same none = refl
 entries_other nodes later n (k ∷ ns) same none =
     ap₂ (λ (a b : List Entry). a ++ b) (ap found_entry (same k none.0)) (entries_other nodes later n ns same none.1)
 
--- one more value is taken
+-- taking one more value
 pub one_taken : (order : List ℕ) (i : ℕ) → i < length order → (nodes later : List Node) (items more : List Item) (taken : Option Item) →
     (all : List Entry) → map entry_of (option_to_list taken) ≡ entry_at nodes (get_or order i 0) →
     ((k : ℕ) → (get_or order i 0 ≡ k → ⊥) → slice_get later k ≡ slice_get nodes k) →

@@ -31,9 +31,9 @@ distinct_append : (xs ys : List ℕ) → AreDistinct xs → AreDistinct ys → A
 distinct_append [] ys a b apart = b
 distinct_append (x ∷ xs) ys a b apart = (none_append x xs ys a.0 apart.0, distinct_append xs ys a.1 b apart.1)
 
--- ---- values around others
+-- ---- values that contain others
 
--- a value is another one or around it
+-- a value is another one or contains it
 pub data IsAround (groups : List ℕ) (c : ℕ) : ℕ → Type 0 where
   itself : IsAround groups c c
   inner : (m p : ℕ) → m < length groups → get_or groups m 0 ≡ suc p → IsAround groups c p → IsAround groups c m
@@ -49,7 +49,7 @@ pub around_part : (groups : List ℕ) (c n : ℕ) → IsMember groups (suc c) n 
 around_part groups c n member _ itself = inner n c member.0 member.1 itself
 around_part groups c n member _ (inner m p within is a) = inner m p within is (around_part groups c n member p a)
 
--- of two values of one group, at most one is around a value
+-- of two different values in one group, at most one contains a given value
 pub around_same : (groups : List ℕ) → ComeLater groups → (group c d m : ℕ) → IsMember groups group c → IsMember groups group d →
     IsAround groups c m → IsAround groups d m → c ≡ d
 around_same groups late group c d _ one other itself itself = refl
@@ -81,7 +81,7 @@ around_numbers groups (suc levels) c =
 around_tree : (groups : List ℕ) (levels n : ℕ) → AllByRecursion (IsAround groups n) (subtree groups levels n)
 around_tree groups levels n = (itself, around_numbers groups levels n)
 
--- what is inside a value comes after it
+-- the values inside a value come after it
 numbers_above : (groups : List ℕ) → ComeLater groups → (levels c : ℕ) → AllByRecursion (λ m. c < m) (numbers_in levels groups (suc c))
 unfolding numbers_in
 numbers_above groups late zero c = tt
@@ -116,7 +116,7 @@ members_distinct (suc fuel) groups k group enough =
     (λ past. subst AreDistinct (sym (member_end groups k group past)) tt)
     (cases_lt k (length groups))
 
--- what is inside a value is not inside others of its group
+-- the values inside a value are not inside others of its group
 apart_from : (groups : List ℕ) → ComeLater groups → (levels group n : ℕ) → IsMember groups group n → (ns : List ℕ) →
     AllByRecursion (IsMember groups group) ns → IsNoneOf n ns → (m : ℕ) → IsAround groups n m →
     AllByRecursion (λ x. m ≡ x → ⊥) (flat_map (subtree groups levels) ns)

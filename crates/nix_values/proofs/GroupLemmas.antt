@@ -1,4 +1,4 @@
--- The values of a group, and the order of all values.
+-- The values in a group, and the order of all values.
 use Rattle.std.proofs.Common.{◌≡◌, ◌∙◌, ℕ, zero, suc, ◌+◌, ◌<◌, ◌≤◌, false, cond, eqb, List, [], ◌∷◌, ◌++◌, length, get_or, drop, drop-cons, flat_map, slice_get, Option, Some, None, ⊎_elim, sym, refl, ap, ap₂, subst, eq-eqb, eqb-true, arith}
 use Rattle.std.specs.List.{AllByRecursion}
 use Rattle.std.proofs.lemmas.Bool.{cases_Bool, cases_lt, cond-true, cond-false}
@@ -50,7 +50,7 @@ first_other groups k group less other = ap (λ xs. slice_get xs 0) (member_other
 pub first_end : (groups : List ℕ) (k group : ℕ) → length groups ≤ k → first_from k groups group ≡ None
 first_end groups k group past = ap (λ xs. slice_get xs 0) (member_end groups k group past)
 
--- the first value of a group is followed by the others
+-- the first value in a group is followed by the others
 pub record IsFirst (k : ℕ) (groups : List ℕ) (group n : ℕ) : Type 0 where
   pub members : members_at k groups group ≡ n ∷ members_at (suc n) groups group
   pub group_is : get_or groups n 0 ≡ group
@@ -81,7 +81,7 @@ is_first (suc fuel) groups k group n enough e =
     (λ past. let both : None ≡ Some n = sym (first_end groups k group past) ∙ e in absurd (cc))
     (cases_lt k (length groups))
 
--- what holds of each value with a group holds of the values of the group
+-- what holds for each value in a group holds for the list of the group's values
 pub members_each : (P : ℕ → Type 0) (fuel : ℕ) (groups : List ℕ) (k group : ℕ) → length groups ≤ fuel + k →
     ((n : ℕ) → k ≤ n → n < length groups → get_or groups n 0 ≡ group → P n) → AllByRecursion P (members_at k groups group)
 members_each P zero groups k group enough each = subst (AllByRecursion P) (sym (member_end groups k group (omega arith))) tt
@@ -106,7 +106,7 @@ each_member P groups group each = members_each P (length groups) groups 0 group 
 
 -- ---- the order
 
--- parents come before what is inside them
+-- parents come before the values inside them
 abbrev pub ComeLater : List ℕ → Type 0
 ComeLater groups = (n : ℕ) → n < length groups → get_or groups n 0 ≤ n
 
@@ -114,7 +114,7 @@ ComeLater groups = (n : ℕ) → n < length groups → get_or groups n 0 ≤ n
 abbrev pub subtree : List ℕ → ℕ → ℕ → List ℕ
 subtree groups levels n = n ∷ numbers_in levels groups (suc n)
 
--- more levels than values change nothing
+-- more levels than there are values change nothing
 pub steady : (groups : List ℕ) → ComeLater groups → (levels group : ℕ) → length groups ≤ levels + group →
     numbers_in (suc levels) groups group ≡ numbers_in levels groups group
 unfolding numbers_in
@@ -135,7 +135,7 @@ pub whole : (groups : List ℕ) → ComeLater groups → (group : ℕ) →
 unfolding numbers_in
 whole groups late group = sym (steady groups late (length groups) group (omega arith))
 
--- a value and those of its group after it, each followed by those inside it
+-- a value and those after it in its group, each followed by the values inside it
 abbrev pub from : List ℕ → ℕ → List ℕ
 from groups n = flat_map (tree groups) (members_at n groups (get_or groups n 0))
 
@@ -153,7 +153,7 @@ group_rest groups k group = by (first_from k groups group) refl
         ap (flat_map (tree groups))
         (found.members ∙ sym (member_here groups n group found.within found.group_is) ∙ ap (members_at n groups) (sym found.group_is))
 
--- a value is followed by those inside it, and by those of its group after it
+-- a value is followed by those inside it, and then by those after it in its group
 pub from_step : (groups : List ℕ) → ComeLater groups → (n : ℕ) → n < length groups →
     from groups n ≡ n ∷ (from_first groups (first_from 0 groups (suc n)) ++ from_first groups (first_from (suc n) groups (get_or groups n 0)))
 from_step groups late n within =

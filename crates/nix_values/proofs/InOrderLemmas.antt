@@ -1,4 +1,4 @@
--- Values that are added in their order: each one to the last value before it, or to one around that.
+-- Values that are added in preorder: each is inside the last value before it, or inside one that contains it.
 use Rattle.std.proofs.Common.{◌≡◌, ◌∙◌, ℕ, zero, suc, ◌+◌, ◌<◌, ◌≤◌, cond, eqb, List, [], ◌∷◌, ◌++◌, length, get_or, take, min, slice_get, Some, flat_map, ⊎_elim, sym, refl, ap, ap₂, subst, eq-eqb, append-nil, append_assoc, length-append, length-take, length-take-le, get_or-take, take_all, map-id, add-one, arith}
 use Rattle.std.specs.List.{AllByRecursion, range_with_len}
 use Rattle.std.proofs.lemmas.Bool.{cases_Bool, cond-true, cond-false, ne_eqb}
@@ -14,7 +14,7 @@ use Rattle.nix_values.proofs.DistinctLemmas.{IsAround, itself, around_low, aroun
 abbrev longer : List ℕ → ℕ → List ℕ
 longer groups g = groups ++ g ∷ []
 
--- the members of a group, with one more value at the end
+-- the values in a group after one more value is added at the end
 members_more : (k : ℕ) (groups : List ℕ) (g group : ℕ) →
     members_from k (longer groups g) group ≡ members_from k groups group ++ cond (eqb g group) ((k + length groups) ∷ []) []
 members_more k [] g group =
@@ -50,7 +50,7 @@ members_same groups g group other =
 abbrev IsOutside : List ℕ → ℕ → ℕ → Type 0
 IsOutside groups g m = (p : ℕ) → g ≡ suc p → IsAround groups m p → ⊥
 
--- so what is inside it stays as it is
+-- so the values inside this one stay the same
 inside_same : (groups : List ℕ) (g levels m : ℕ) → IsOutside groups g m → numbers_in levels (longer groups g) (suc m) ≡ numbers_in levels groups (suc m)
 unfolding numbers_in
 inside_same groups g zero m out = refl
@@ -81,9 +81,9 @@ unfolding numbers_in
 none_inside groups late zero u past = refl
 none_inside groups late (suc levels) u past = ap (flat_map (subtree groups levels)) (no_members groups late u past)
 
--- ---- the last value and those around it
+-- ---- the last value and those that contain it
 
--- each number is the last one of its group, from a group on
+-- each number is the last one in its group, starting with a group
 abbrev pub IsChain : List ℕ → ℕ → List ℕ → Type 0
 IsChain groups u [] = members_from 0 groups u ≡ []
 IsChain groups u (c ∷ cs) = (front : List ℕ) × (members_from 0 groups u ≡ front ++ c ∷ []) × IsChain groups (suc c) cs
@@ -114,7 +114,7 @@ chain_members groups u c front is =
     all_parts (IsMember groups u) front c
     (subst (AllByRecursion (IsMember groups u)) is (each_member (IsMember groups u) groups u (λ n member. member)))
 
--- a value of a chain is around the last one
+-- a value in a chain contains the last one
 chain_around : (groups : List ℕ) (c : ℕ) (front back : List ℕ) → IsChain groups (suc c) (front ++ back) → (p : ℕ) →
     innermost (suc c) front ≡ suc p → IsAround groups c p
 chain_around groups c [] back chain p is =
@@ -123,9 +123,9 @@ chain_around groups c [] back chain p is =
 chain_around groups c (d ∷ front) back chain p is =
     around_part groups c d (chain_members groups (suc c) d chain.0 chain.1).1 p (chain_around groups d front back chain.2 p is)
 
--- ---- one more value in its order
+-- ---- one more value in preorder
 
--- a value is added last to a group, or to what is inside the values of the chain
+-- a value is added at the end of a group, or at the end of what is inside the values in the chain
 record IsExtended (groups : List ℕ) (g u : ℕ) (front : List ℕ) : Type 0 where
   chain : IsChain (longer groups g) u (front ++ length groups ∷ [])
   numbers : (levels : ℕ) → suc (length groups) ≤ levels + u →
@@ -157,7 +157,7 @@ extended_here groups g late later small = record {
         ∙ ap₂ (λ (a b : List ℕ). a ++ (length groups ∷ (b ++ []))) (subtrees_same groups g levels (members_from 0 groups g) outside)
         (none_inside (longer groups g) later levels (suc (length groups)) (omega (arith, length-append groups (g ∷ []))))
 
--- the new value is inside the last one of this group
+-- the new value is inside the last value in this group
 extended_inside : (groups : List ℕ) (g u c : ℕ) (front back : List ℕ) → ComeLater groups → IsChain groups u (c ∷ front ++ back) →
     g ≡ innermost (suc c) front → IsExtended groups g (suc c) front → IsExtended groups g u (c ∷ front)
 unfolding numbers_in
@@ -225,7 +225,7 @@ range_more n =
     ∙ map-range_with_len_more (λ k. k) 0 n n (omega arith)
     ∙ ap (λ ns. ns ++ n ∷ []) (map-id (range_with_len 0 n))
 
--- the values up to a number are in order, and these are the last one and those around it
+-- the values up to a number are in preorder, and these are the last one and those that contain it
 pub record AreInOrder (groups : List ℕ) (n : ℕ) (around : List ℕ) : Type 0 where
   pub chain : IsChain (take n groups) 0 around
   pub order : numbers_in n (take n groups) 0 ≡ range_with_len 0 n
@@ -262,7 +262,7 @@ in_order_all groups n around past within all =
     ap (λ xs. numbers_in (length groups) xs 0) (sym (take_all n groups past))
     ∙ subst (λ m. numbers_in m (take n groups) 0 ≡ range_with_len 0 m) len all.order
 
--- the group of the values inside the last one
+-- the group of the values inside the last value
 pub innermost_last : (group : ℕ) (xs : List ℕ) (x i : ℕ) → suc i ≡ length xs → slice_get xs i ≡ Some x → innermost group xs ≡ suc x
 innermost_last group [] x i len is = absurd (omega (arith, len))
 innermost_last group (y ∷ []) x zero len is = let same : y ≡ x = cc in ap suc same

@@ -1,4 +1,4 @@
--- Whatever is still to come of a JSON text, some bytes are it.
+-- Whatever parts of a JSON text remain, some bytes complete it.
 use Rattle.std.proofs.Common.{◌≡◌, ◌∙◌, ℕ, ◌+◌, true, false, List, [], ◌∷◌, ◌++◌, ap, refl, Some}
 use Rattle.std.specs.Prelude.{codes, option_and_then}
 use Rattle.nix_values.specs.Contents.{Entry, null}
@@ -7,7 +7,7 @@ use Rattle.nix_values.specs.Json.{Token, closing, colon, string, scalar, token_a
 use Rattle.nix_values.specs.JsonNames.{completion}
 use Rattle.nix_values.proofs.JsonTokenLemmas.{before, over_token}
 
--- bytes mean values, if they are these parts
+-- the bytes form these parts, and mean values
 abbrev pub HasValues : List Part → List ℕ → Type 0
 HasValues parts bytes = (entries : List Entry) × (values_of parts bytes ≡ Some entries)
 
@@ -52,7 +52,7 @@ named_completes d name ps rest h =
 close_completes : (d : ℕ) (ps : List Part) (rest : List ℕ) → HasValues ps rest → HasValues (more_members d ∷ ps) (codes "}" ++ rest)
 close_completes d ps rest h = token_then (more_members d ∷ ps) ps [] (closing true) (codes "}" ++ rest) rest (close_set_first rest) refl h
 
--- whatever is still to come, some bytes are it
+-- the completion of the remaining parts forms them
 pub completes : (parts : List Part) → HasValues parts (completion parts)
 unfolding tokens_behind meaning
 completes [] = ([], refl)

@@ -9,18 +9,18 @@ use Rattle.std.proofs.lemmas.{Bool.{cond-true, cond-false}, Bool.Decides.nat_tes
 use Rattle.nix_values.specs.JsonEscapes.{is_plain}
 use Rattle.nix_values.specs.JsonContent.{is_high, is_low, escaped_unit, escape_at, behind, content}
 
--- nothing is in front
+-- a prefix of no bytes changes nothing
 behind_none : (x : Option (List ℕ × ℕ)) → behind [] 0 x ≡ x
 behind_none None = refl
 behind_none (Some r) = let e : 0 + r.1 ≡ r.1 = omega arith in ap (λ n. Some (r.0, n)) e
 
--- what is in front of what is in front
+-- two prefixes, one before the other
 pub behind_twice : (v w : List ℕ) (m n : ℕ) (x : Option (List ℕ × ℕ)) → behind v m (behind w n x) ≡ behind (v ++ w) (m + n) x
 behind_twice v w m n None = refl
 behind_twice v w m n (Some r) =
     let e : m + (n + r.1) ≡ m + n + r.1 = omega arith in ap₂ (λ (t : List ℕ) (k : ℕ). Some (t, k)) (sym (append_assoc v w r.0)) e
 
--- bytes are passed over
+-- skipping bytes
 content_after : (n : ℕ) (bs : List ℕ) → n ≤ length bs → content n bs ≡ behind [] n (content 0 (drop n bs))
 unfolding content
 content_after zero bs h = sym (behind_none (content 0 bs))
@@ -30,7 +30,7 @@ content_after (suc n) (b ∷ bs) h =
     let e : 1 + n ≡ suc n = omega arith in
     ap (behind [] 1) (content_after n bs rest) ∙ behind_twice [] [] 1 n (content 0 (drop n bs)) ∙ ap (λ k. behind [] k (content 0 (drop n bs))) e
 
--- the last of four choices
+-- if three tests fail, the last of four choices is taken
 last_of_four : {A : Type 0} (x y z : Bool) (p q r s : A) → not z && (not x && not y) ≡ true → (if x then p else (if y then q else (if z then r else s))) ≡ s
 last_of_four false false false p q r s h = refl
 last_of_four true y false p q r s h = absurd (cc)
@@ -42,7 +42,7 @@ plain_byte : (b : ℕ) (bs : List ℕ) → is_plain b ≡ true → content 0 (b 
 unfolding content
 plain_byte b bs h = last_of_four (b == 34) (b == 92) (nat_lt b 32) _ _ _ _ h
 
--- a byte, plain or not, in front of some bytes
+-- a run before some bytes, whose first byte is plain or not
 abbrev RunsOf : List ℕ → Type 0
 RunsOf bs = content 0 bs ≡ behind (take (prefix_len is_plain bs) bs) (prefix_len is_plain bs) (content 0 (drop (prefix_len is_plain bs) bs))
 
@@ -63,7 +63,7 @@ pub plain_run : (bs : List ℕ)
 plain_run [] = sym (behind_none (content 0 []))
 plain_run (b ∷ bs) = plain_front b bs (is_plain b) refl (plain_run bs)
 
--- an escape
+-- an escape at the beginning
 escape_first : (bs : List ℕ) (c n : ℕ) → escape_at bs ≡ Some (c, n) → n ≤ length bs
     → content 0 (92 ∷ bs) ≡ behind (encode_utf8 c) (1 + n) (content 0 (drop n bs))
 unfolding content
@@ -71,19 +71,19 @@ escape_first bs c n h within =
     rw h (ap (behind (encode_utf8 c) 1) (content_after n bs within) ∙ behind_twice (encode_utf8 c) [] 1 n (content 0 (drop n bs))
     ∙ ap (λ v. behind v (1 + n) (content 0 (drop n bs))) (append-nil (encode_utf8 c)))
 
--- what is read of a text, and what is left of it
+-- the text is read as a value, and `rest` remains
 pub record IsReadTo (text value rest : List ℕ) : Type 0 where
   pub within : length rest ≤ length text
   pub same : content 0 text ≡ behind value (length text - length rest) (content 0 rest)
 
--- nothing is read yet
+-- nothing has been read
 pub read_none : (text : List ℕ) → IsReadTo text [] text
 read_none text = record {
   within = omega arith;
   same = let e : 0 ≡ length text - length text = omega arith in sym (behind_none (content 0 text)) ∙ ap (λ n. behind [] n (content 0 text)) e;
 }
 
--- a run more is read
+-- one more run is read
 pub read_run : (text value rest mid remaining : List ℕ) → IsReadTo text value rest → remaining ≡ drop (prefix_len is_plain rest) rest
     → mid ≡ value ++ take (prefix_len is_plain rest) rest → prefix_len is_plain rest ≤ length rest → IsReadTo text mid remaining
 read_run text value rest mid remaining h behind_is mid_is fits =
@@ -98,7 +98,7 @@ read_run text value rest mid remaining h behind_is mid_is fits =
           ∙ ap (λ l. behind mid (length text - length remaining) (content 0 l)) (sym behind_is);
     }
 
--- an escape more is read
+-- one more escape is read
 pub read_escape : (text mid remaining bs new rest : List ℕ) (c n : ℕ) → IsReadTo text mid remaining → remaining ≡ 92 ∷ bs → escape_at bs ≡ Some (c, n)
     → n ≤ length bs
     → new ≡ mid ++ encode_utf8 c → rest ≡ drop n bs → IsReadTo text new rest
@@ -122,11 +122,11 @@ read_quote text mid remaining bs h remaining_is =
     h.same ∙ ap (λ l. behind mid (length text - length remaining) (content 0 l)) remaining_is
     ∙ ap (λ v. Some (v, length text - length remaining + 1)) (append-nil mid)
 
--- what is left is no string
+-- if what remains is not the rest of a string, the text is not a string
 pub read_wrong : (text mid remaining : List ℕ) → IsReadTo text mid remaining → content 0 remaining ≡ None → content 0 text ≡ None
 read_wrong text mid remaining h none = h.same ∙ ap (behind mid (length text - length remaining)) none
 
--- what is no string
+-- an empty text is not a string
 pub no_quote : (remaining : List ℕ) → remaining ≡ [] → content 0 remaining ≡ None
 unfolding content
 no_quote remaining h = ap (content 0) h
@@ -135,7 +135,7 @@ pub no_escape : (remaining bs : List ℕ) → remaining ≡ 92 ∷ bs → escape
 unfolding content
 no_escape remaining bs h none = ap (content 0) h ∙ rw none refl
 
--- a byte that is not allowed without an escape, and is neither a quote nor a backslash
+-- a byte that may not occur without an escape, and is neither a quote nor a backslash
 third_of_four : {A : Type 0} (x y z : Bool) (p q r s : A) → not z && (not x && not y) ≡ false → x ≡ false → y ≡ false
     → (if x then p else (if y then q else (if z then r else s))) ≡ r
 third_of_four false false true p q r s h i j = refl
@@ -147,7 +147,7 @@ pub no_control : (remaining bs : List ℕ) (b : ℕ) → remaining ≡ b ∷ bs 
 unfolding content
 no_control remaining bs b h plain quote backslash = ap (content 0) h ∙ third_of_four (b == 34) (b == 92) (nat_lt b 32) _ _ _ _ plain quote backslash
 
--- a byte at the front of what is left
+-- the first byte of what remains
 pub head_is : (remaining : List ℕ) (b : ℕ) → 0 < length remaining → get_or remaining 0 0 ≡ b → remaining ≡ b ∷ drop 1 remaining
 head_is [] b some is = absurd (omega (arith, some))
 head_is (x ∷ xs) b some is = ap (λ y. y ∷ xs) is
@@ -169,11 +169,11 @@ pub no_escape_next : (text mid remaining bs : List ℕ) → IsReadTo text mid re
 no_escape_next text mid remaining bs h some is behind_is none =
     read_wrong text mid remaining h (no_escape remaining bs (head_is remaining 92 some is ∙ ap (λ l. 92 ∷ l) (sym behind_is)) none)
 
--- the text ends
+-- the text ends without a quote
 pub end_next : (text mid remaining : List ℕ) → IsReadTo text mid remaining → remaining ≡ [] → content 0 text ≡ None
 end_next text mid remaining h none = read_wrong text mid remaining h (no_quote remaining none)
 
--- a byte comes next that needs an escape, or ends the string
+-- after a run, the next byte needs an escape or ends the string
 pub run_stops : (rest remaining : List ℕ) → remaining ≡ drop (prefix_len is_plain rest) rest → 0 < length remaining → is_plain (get_or remaining 0 0) ≡ false
 run_stops rest remaining is some =
     let n = prefix_len is_plain rest in
@@ -207,13 +207,13 @@ low_of_scalar u h = elim h [ inl below ↦ low_below u below | inr above ↦ low
 low_of_other : (u : ℕ) → u < 65536 → is_high u ≡ false → OutOfScalarRange u → is_low u ≡ true
 low_of_other u small other h = elim h [ inl within ↦ low_between u other within.0 within.1 | inr past ↦ absurd (omega (arith, small, past)) ]
 
--- a number that is no half of a pair
+-- a code unit that is not half of a pair
 pub unit_found : (u v : ℕ) (rest : List ℕ) → (u ≡ 0 → ⊥) → is_high u ≡ false → InScalarRange u → v ≡ u → escaped_unit (Some u) rest ≡ Some (v, 5)
 unit_found u v rest some other range same =
     cond-false (u == 0) _ _ (ne_eqb u 0 some) ∙ cond-false (is_high u) _ _ other ∙ cond-false (is_low u) _ _ (low_of_scalar u range)
     ∙ ap (λ (k : ℕ). Some (k, 5)) (sym same)
 
--- the second half of a pair alone
+-- the second half of a pair without the first
 pub unit_none : (u : ℕ) (rest : List ℕ) → (u ≡ 0 → ⊥) → u < 65536 → is_high u ≡ false → OutOfScalarRange u → escaped_unit (Some u) rest ≡ None
 unit_none u rest some small other range =
     cond-false (u == 0) _ _ (ne_eqb u 0 some) ∙ cond-false (is_high u) _ _ other ∙ cond-true (is_low u) _ _ (low_of_other u small other range)

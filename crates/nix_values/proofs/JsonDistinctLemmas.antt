@@ -1,4 +1,4 @@
--- Names that are read in JSON differ from those that their set has.
+-- Each name that is read in JSON differs from the names that its set already has.
 use Rattle.std.proofs.Common.{◌≡◌, ◌∙◌, ℕ, ◌+◌, ◌-◌, ◌<◌, Bool, true, false, List, [], ◌∷◌, ◌++◌, length, map, Option, Some, None, IfNone, ⊎_elim, sym, refl, ap, subst, arith, append-nil}
 use Rattle.std.specs.Prelude.{slice_get}
 use Rattle.std.proofs.lemmas.Bool.{cases_Bool, cases_eq, cond-true, cond-false}
@@ -66,7 +66,7 @@ pub behind_free : (fs : List Frame) (r : Reading) → IsNextFree (state_behind f
 behind_free [] r = tt
 behind_free (f ∷ fs) r = tt
 
--- nothing is the attribute of a list
+-- a value in a list is not an attribute
 list_free : (r : Reading) (f : Frame) (name : List ℕ) → last_frame r.frames.items ≡ Some f → f.is_set ≡ false → IsFree r name
 list_free r f name last is number key next there =
     none-some key (sym (ap (λ o. in_set (set_of o) name) last ∙ ap (λ o. in_set o name) (cond-false f.is_set (Some f.node) None is)) ∙ next)
@@ -81,7 +81,7 @@ pub opened_free : (b : Bool) (r : Reading) (fs : List Frame) (f : Frame) → f.i
 opened_free true r fs f is frames = tt
 opened_free false r fs f is frames = list_free r f (name_of r.name) (ap last_frame frames ∙ last_pushed fs f) is
 
--- the innermost list or set is of a sort
+-- whether the innermost open list or set is a set
 pub last_sort : (b : Bool) (fs : List Frame) (f : Frame) → last_frame fs ≡ Some f → IsInside b fs → f.is_set ≡ b
 last_sort b fs f last inside =
     let some : length fs - 1 < length fs = slice_get_within fs (length fs - 1) f last in
@@ -100,7 +100,7 @@ pub colon_free : (s : State) (r : Reading) → is_colon_next s ≡ true → IsNe
 colon_free state.Colon r next free = free
 colon_free _ r next free = absurd (cc)
 
--- a name that is not taken
+-- a name that is not taken is free
 pub name_free : (r : Reading) (name : List ℕ) → IsPlacedIn r → IsNotTaken r name → IsFree r name
 name_free r name placed none number key next there = by (last_frame r.frames.items) refl
   where
@@ -133,7 +133,7 @@ opened_next b r s fs f e is frames = subst (λ t. IsNextFree t r) (sym e) (opene
 pub comma_next : (b : Bool) (r : Reading) (s : State) → s ≡ behind_comma b → IsInside b r.frames.items → IsNextFree s r
 comma_next b r s e inside = subst (λ t. IsNextFree t r) (sym e) (comma_free b r inside)
 
--- nothing is read
+-- nothing has been read
 pub begun_distinct : (r : Reading) → r.found.items.items ≡ [] → r.state ≡ state.Value → IsDistinct r
 begun_distinct r items is = record {
   distinct = λ again. none again.second (again.set, again.name) again.other;
@@ -146,7 +146,7 @@ begun_distinct r items is = record {
         let empty : length (entries_in r) ≡ 0 = ap (λ xs. length (map entry_of xs)) items in
         absurd (omega (arith, within, empty))
 
--- nothing is known of the next value
+-- nothing is known about the next value
 none_next : (es next : List Entry) → next ≡ [] → HasDistinctNames es → HasDistinctNames (es ++ next)
 none_next es next none distinct = subst (λ ys. HasDistinctNames (es ++ ys)) (sym none) (subst HasDistinctNames (sym (append-nil es)) distinct)
 
@@ -154,7 +154,7 @@ more_next : (b : Bool) (d : ℕ) (ps : List Part) → next_entry (more_of b d �
 more_next true d ps = refl
 more_next false d ps = refl
 
--- no set has a name twice, with that of the next value
+-- no set has a name twice, even with the name of the next value
 pub distinct_next : (s : State) (r : Reading) → IsState s r.frames.items (name_of r.name) → IsPlacedIn r → HasDistinctNames (entries_in r) → IsNextFree s r →
     HasDistinctNames (entries_in r ++ next_entry (parts_in s r.frames.items (name_of r.name)))
 distinct_next state.Value r sound placed distinct free =

@@ -1,4 +1,4 @@
--- The errors of certain texts, by computation: most are of the texts that a parser must refuse in JSONTestSuite.
+-- The errors of certain texts, by computation. Most of the texts are those of JSONTestSuite that a parser must refuse.
 use Rattle.std.proofs.Common.{◌≡◌, ℕ, true, List, [], ◌∷◌, ◌++◌, refl, Some, None}
 use Rattle.std.specs.Prelude.{codes}
 use Rattle.nix_values.specs.declared.json_reader.TheConstants.{MOST_DEPTH}
@@ -17,14 +17,14 @@ none : (json_error (codes "[1, {\"a\": [true, null], \"b\" : {}}] ") ≡ None) �
 unfolding stop_in token_at number_at content escape_at
 none = (refl, refl, refl)
 
--- where a value is missing
+-- a value is missing
 values : Stops [] NoValue 0 × Stops (codes "  ") NoValue 2 × Stops (codes "[") NoValue 1 × Stops (codes "[\"\",]") NoValue 4 × Stops (codes "[1,,2]") NoValue 3
     × Stops (codes "[,]") NoValue 1 × Stops (codes "[}") NoValue 1 × Stops (codes "{\"a\":") NoValue 5 × Stops (codes "{\"x\"::\"b\"}") NoValue 5
     × Stops (codes "[{\"\":[{\"\":") NoValue 10
 unfolding stop_in token_at number_at content
 values = (refl, refl, refl, refl, refl, refl, refl, refl, refl, refl)
 
--- words that are none, and other bytes
+-- words that are no keywords, and other bytes
 words : Stops (codes "[tru]") NoValue 1 × Stops (codes "[True]") NoValue 1 × Stops (codes "[nul") NoValue 1 × Stops (codes "[NaN]") NoValue 1
     × Stops (codes "[+1]") NoValue 1 × Stops (codes "[.123]") NoValue 1 × Stops (codes "['a']") NoValue 1 × Stops (239 ∷ 187 ∷ 191 ∷ codes "1") NoValue 0
     × Stops (codes "nullx") AfterValue 4
@@ -45,20 +45,20 @@ objects : Stops (codes "{\"asd\":\"asd\"") NoCommaInObject 12 × Stops (codes "{
 unfolding stop_in token_at number_at content
 objects = (refl, refl, refl, refl, refl, refl, refl, refl, refl, refl, refl, refl)
 
--- what follows the value
+-- bytes after the value
 more : Stops (codes "[\"\"],") AfterValue 4 × Stops (codes "[\"x\"]]") AfterValue 5 × Stops (codes "{\"a\":\"b\"}#") AfterValue 9
     × Stops (codes "{}}") AfterValue 2 × Stops (codes "1]") AfterValue 1 × Stops (codes "1 [") AfterValue 2 × Stops (codes "\"\" \"\"") AfterValue 3
 unfolding stop_in token_at number_at content
 more = (refl, refl, refl, refl, refl, refl, refl)
 
--- numbers that are none, and those that end before a byte that looks like theirs
+-- malformed numbers, and numbers that end before a byte that looks like a part of them
 numbers : Stops (codes "[2.e3]") NoNumber 1 × Stops (codes "[1eE2]") NoNumber 1 × Stops (codes "[-]") NoNumber 1 × Stops (codes "[-a]") NoNumber 1
     × Stops (codes "[0e+") NoNumber 1 × Stops (codes "[-01]") NoCommaInList 3 × Stops (codes "[0x1]") NoCommaInList 2
     × Stops (codes "[1 000]") NoCommaInList 3 × Stops (codes "[9223372036854775808]") TooLarge 1 × Stops (codes "01") AfterValue 1
 unfolding stop_in token_at number_at
 numbers = (refl, refl, refl, refl, refl, refl, refl, refl, refl, refl)
 
--- strings that are none
+-- malformed strings
 strings : Stops (codes "[\"a\\x00\"]") NoEscape 3 × Stops (codes "[\"\\u00A\"]") NoEscape 2 × Stops (codes "[\"\\") NoEscape 2
     × Stops (codes "[\"\\\"]") OpenString 1 × Stops (codes "\"a") OpenString 0 × Stops (codes "[\"\\uD800\\\"]") LoneSurrogate 2
     × Stops (codes "[\"\\u00e9\\uDC00\"]") LoneSurrogate 8 × Stops (codes "\"\\u0000\"") HasNul 1 × Stops (34 ∷ 97 ∷ 0 ∷ 34 ∷ []) HasNul 2
@@ -66,7 +66,7 @@ strings : Stops (codes "[\"a\\x00\"]") NoEscape 3 × Stops (codes "[\"\\u00A\"]"
 unfolding stop_in token_at content escape_at string_error
 strings = (refl, refl, refl, refl, refl, refl, refl, refl, refl, refl, refl)
 
--- one list more than are allowed
+-- one list more than allowed
 deep : (error_of (stop_at (value MOST_DEPTH [] ∷ more_items MOST_DEPTH ∷ []) 700 (codes "[]")) ≡ error_at TooDeep 700)
     × (error_of (record { parts = first_item MOST_DEPTH ∷ []; offset = 600; rest = codes "{}" }) ≡ error_at TooDeep 600)
 unfolding token_at

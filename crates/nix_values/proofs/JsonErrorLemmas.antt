@@ -1,4 +1,4 @@
--- Where a text stops being JSON that is read token by token.
+-- Where a text that is read token by token stops being JSON.
 use Rattle.std.proofs.Common.{◌≡◌, ◌∙◌, ℕ, zero, suc, ◌+◌, ◌-◌, ◌<◌, ◌≤◌, true, false, List, [], ◌∷◌, length, get_or, drop, ap, ap₂, sym, refl, arith, Option, Some, None}
 use Rattle.std.proofs.lemmas.List.{drop_more, drop-drop, drop_all, length-drop}
 use Rattle.std.proofs.lemmas.Bool.{cond-true, cond-false}
@@ -7,7 +7,7 @@ use Rattle.nix_values.specs.Contents.{Entry}
 use Rattle.nix_values.specs.Json.{Token, is_space, token_at, Part, Taken, parts_from}
 use Rattle.nix_values.specs.JsonErrors.{stop_at, error_at, if_found, unfitting, token_error, parts_behind, stop_at_end, stop_in, error_of}
 
--- bytes are passed over
+-- skipping bytes
 stop_after : (parts : List Part) (n at : ℕ) (bytes : List ℕ) → n ≤ length bytes → stop_in parts n at bytes ≡ stop_in parts 0 (at + n) (drop n bytes)
 unfolding stop_in
 stop_after parts zero at bytes h = let e : at ≡ at + 0 = omega arith in ap (λ k. stop_in parts 0 k bytes) e
@@ -17,7 +17,7 @@ stop_after parts (suc n) at (b ∷ bytes) h =
     let e : suc at + n ≡ at + suc n = omega arith in
     stop_after parts n (suc at) bytes rest ∙ ap (λ k. stop_in parts 0 k (drop n bytes)) e
 
--- white space is passed over
+-- skipping white space
 pub space_first : (parts : List Part) (at b : ℕ) (bytes : List ℕ) → is_space b ≡ true → stop_in parts 0 at (b ∷ bytes) ≡ stop_in parts 0 (at + 1) bytes
 unfolding stop_in
 space_first parts at b bytes h = let e : suc at ≡ at + 1 = omega arith in cond-true (is_space b) _ _ h ∙ ap (λ k. stop_in parts 0 k bytes) e
@@ -35,7 +35,7 @@ spaces_between parts bytes at (suc n) next is within spaces =
     ∙ space_first parts (at + n) (get_or bytes (at + n) 0) (drop (at + n + 1) bytes) (let from : at ≤ at + n = omega arith in spaces (at + n) from inside)
     ∙ ap (λ k. stop_in parts 0 k (drop k bytes)) (sym last)
 
--- a token
+-- reading a token
 pub token_first : (parts : List Part) (at b : ℕ) (bytes : List ℕ) (found : Option (List Part × ℕ)) → is_space b ≡ false → parts_behind parts b bytes ≡ found →
     stop_in parts 0 at (b ∷ bytes) ≡
     if_found (Some (stop_at parts at (b ∷ bytes))) (λ r. stop_in r.0 (r.1 - 1) (suc at) bytes) found
@@ -44,7 +44,7 @@ token_first parts at b bytes found solid is =
     cond-false (is_space b) _ _ solid
     ∙ ap (if_found (Some (stop_at parts at (b ∷ bytes))) (λ (r : List Part × ℕ). stop_in r.0 (r.1 - 1) (suc at) bytes)) is
 
--- what follows a token, by its length
+-- what follows a token, given its length
 pub behind_token : (parts : List Part) (b : ℕ) (bytes : List ℕ) (t : Token) (n : ℕ) (taken : Taken) → token_at b bytes ≡ Some (t, n) →
     parts_from parts t ≡ taken →
     parts_behind parts b bytes ≡ option_map (λ r. (r.0, n)) taken
@@ -52,7 +52,7 @@ behind_token parts b bytes t n taken found is =
     ap (option_and_then (λ (x : Token × ℕ). option_map (λ (r : List Part × List Entry). (r.0, x.1)) (parts_from parts x.0))) found
     ∙ ap (option_map (λ (r : List Part × List Entry). (r.0, n))) is
 
--- where there is no token, one that does not fit, or one that does
+-- there is no token, or a token that does not fit, or one that fits
 module _ (parts : List Part) (bytes : List ℕ) (i : ℕ) (there : i < length bytes) (solid : is_space (get_or bytes i 0) ≡ false) where
   abbrev b : ℕ
   b = get_or bytes i 0

@@ -25,13 +25,13 @@ members : IsJson (codes "{\"a\": {}, \"b\" :[\"x\"]}") (at 0 [] set ∷ at 1 (co
 unfolding tokens_behind token_at meaning content
 members = refl
 
--- each escape: a letter of two bytes, and a surrogate pair of four
+-- each escape: a letter of two bytes, and a surrogate pair for four bytes
 escapes : IsJson (codes "\"\\\"\\\\\\/\\b\\f\\n\\r\\t\\u00E9\\ud83d\\uDE00\"")
     (at 0 [] (text (34 ∷ 92 ∷ 47 ∷ 8 ∷ 12 ∷ 10 ∷ 13 ∷ 9 ∷ 195 ∷ 169 ∷ 240 ∷ 159 ∷ 152 ∷ 128 ∷ [])) ∷ [])
 unfolding tokens_behind token_at meaning content escape_at encode_utf8
 escapes = refl
 
--- half of a pair, the character 0, a letter that is no escape, a control character, and no closing quote
+-- half of a pair, the character 0, a letter that makes no escape, a control character, and no closing quote
 half : json_values (codes "\"\\ud83d\"") ≡ None
 unfolding tokens_behind token_at meaning content escape_at
 half = refl

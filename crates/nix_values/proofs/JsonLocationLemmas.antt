@@ -1,4 +1,4 @@
--- Where the reader of JSON is after each token.
+-- The position of the reader of JSON after each token.
 use Rattle.std.proofs.Common.{◌≡◌, ◌∙◌, ℕ, zero, suc, ◌+◌, ◌-◌, ◌<◌, ◌≤◌, Bool, true, false, cond, List, [], ◌∷◌, ◌++◌, length, get_or, take, map, Option, Some, None, ⊎_elim, inl, inr, sym, refl, ap, ap₂, subst, arith, ◌⊎◌, string_bytes, option_map}
 use Rattle.std.specs.Prelude.{IfSome, slice_get, option_and_then, if◌then◌else◌}
 use Rattle.std.proofs.lemmas.Bool.{cases_Bool, cases_eq, cases_lt, both_ways, cond-true, cond-false, le-ltb}
@@ -23,7 +23,7 @@ use Rattle.nix_values.proofs.AttributeInsertLemmas.{Extends, later_sound, later_
 use Rattle.nix_values.proofs.BuiltLemmas.{get_last, get_before}
 use Rattle.nix_values.proofs.RepeatedNameLemmas.{get_front, outside_below, key_front, key_added, outside_same, outside_added}
 
--- ---- nothing is read
+-- ---- nothing has been read
 
 pub placed_begun : (found : Found) (a : Attributes) (frames : List Frame) → found.items.items ≡ [] → found.locations.items ≡ [] → frames ≡ [] →
     IsConsistent (found_keys found) a → IsPlaced found a frames
@@ -48,7 +48,7 @@ placed_begun found a frames items locations none sound = record {
     frame_none : (depth : ℕ) (frame : Frame) → slice_get frames depth ≡ Some frame → ⊥
     frame_none depth frame e = let wrong : ◌≡◌ {A = Option Frame} None (Some frame) = sym (ap (λ fs. slice_get fs depth) none) ∙ e in absurd (cc)
 
--- ---- which attribute a value is that comes next
+-- ---- which attribute the next value is
 
 outside_none : (es : List Entry) (i : ℕ) → last_outside es i 0 ≡ None
 outside_none es zero = refl
@@ -63,7 +63,7 @@ pub last_cases : (frames : List Frame) → ((length frames ≡ 0) × (last_frame
 last_cases [] = inl (refl, refl)
 last_cases (f ∷ fs) = inr (get_or (f ∷ fs) (length (f ∷ fs) - 1) f, slice_get-get_or (f ∷ fs) (length (f ∷ fs) - 1) f (omega arith), omega arith)
 
--- the key of a value with a name that is inside another one
+-- the set and the name of a value with a parent
 abbrev key_under : List Entry → List ℕ → Option ℕ → Option (ℕ × List ℕ)
 key_under es name parent = option_and_then {U = ℕ × List ℕ} (λ p. if is_set_entry (slice_get es p) then Some (p, name) else None) parent
 
@@ -145,7 +145,7 @@ module _ (found new : Found) (a b : Attributes) (frames : List Frame) (item : It
           subst (λ x. IsAttached (found_keys found) a x e.name (length found.items.items) b) is attached in
           (inserted (found_keys new) keys_extend (keys_new ∙ ap (λ x. in_set x e.name) is)).sound
 
-  -- what was found is found, and the new value
+  -- all earlier attributes are found, and so is the new value
   complete_new : (i s : ℕ) (n : List ℕ) → found_keys new i ≡ Some (s, n) → found_in b (found_keys new) s n ≡ None → ⊥
   complete_new i s n key none = by (set_of (last_frame frames)) refl
     where
@@ -265,7 +265,7 @@ placed_closed found a frames new n placed is = record {
   kinds = λ depth frame at. placed.kinds depth frame (get_taken n frames frame depth (sym (ap (λ x. slice_get x depth) is) ∙ at));
 }
 
--- the attribute that is found
+-- a value that is found is the attribute with this name
 pub taken_from : (r : Reading) (frame : Frame) (name : List ℕ) (o : Option ℕ) → IsPlacedIn r → last_frame r.frames.items ≡ Some frame →
     o ≡ found_in r.attributes (found_keys r.found) frame.node name → IfSome o (λ number. IsTaken r number name)
 taken_from r frame name None placed last is = tt

@@ -1,4 +1,4 @@
--- Where the reader of JSON found the names of the attributes that it has.
+-- The offsets at which the reader of JSON found the names of attributes.
 use Rattle.std.proofs.Common.{◌≡◌, ◌∙◌, ℕ, zero, suc, ◌+◌, ◌-◌, ◌<◌, ◌≤◌, Bool, true, false, List, [], ◌∷◌, ◌++◌, length, get_or, Option, Some, None, ⊎_elim, sym, refl, ap, ap₂, subst, arith, string_bytes}
 use Rattle.std.specs.Prelude.{slice_get, option_map, option_and_then, String}
 use Rattle.std.proofs.lemmas.Bool.{cases_eq, cases_Bool, both_ways, cond-true, cond-false}
@@ -34,7 +34,7 @@ some_frame : (o : Option Frame) (s : ℕ) → set_of o ≡ Some s → (f : Frame
 some_frame None s e = absurd (none-some s e)
 some_frame (Some f) s e = let both = set_frame f s e in (f, refl, both.0, both.1)
 
--- a list is no set
+-- a list is not a set
 list_no_set : (fs : List Frame) (s : ℕ) → IsInside false fs → set_of (last_frame fs) ≡ Some s → ⊥
 list_no_set fs s inside e =
     let f = some_frame (last_frame fs) s e in
@@ -46,7 +46,7 @@ list_no_set fs s inside e =
 
 -- ---- names
 
--- the name that comes next in a set begins at an offset
+-- the next name in a set begins at an offset
 pub name_here : (r : Reading) (text t : List ℕ) (at len : ℕ) (f : Frame) → is_name_next r.state ≡ true → IsSound r → IsPlacedIn r →
     last_frame r.frames.items ≡ Some f → IsReadTo text at (parts_remaining r) (entries_in r) → IsTokenAt text at (string t) len →
     (name : IsNameAt text at f.node t) × (HasDistinctNames (entries_in r) → HasDistinctNames name.entries)
@@ -68,7 +68,7 @@ name_here r text t at len f next sound placed last read token =
       λ distinct. distinct,
     )
 
--- an attribute has an offset
+-- each attribute has an offset
 pub offset_found : (found : Found) (i : ℕ) (key : ℕ × List ℕ) → found_keys found i ≡ Some key → (o : ℕ) × (offset_of found i ≡ Some o)
 offset_found found i key e = by (slice_get found.locations.items i) refl
   where
@@ -80,7 +80,7 @@ offset_found found i key e = by (slice_get found.locations.items i) refl
 
 -- ---- what is kept
 
--- names stay where they are while more is read
+-- names keep their offsets while more is read
 named_later : {Z : Type 0} (text : List ℕ) (at next s : ℕ) (n : Option (String Z × ℕ)) → at ≤ next → IsNamed text at s n → IsNamed text next s n
 named_later text at next s None more h = h
 named_later text at next s (Some n) more h = let less : n.1 < next = omega (arith, h.0, more) in (less, h.1)
@@ -100,7 +100,7 @@ located_later text at next r more h = record {
   next = next_later r.state text at next r more h.next;
 }
 
--- nothing is read yet
+-- nothing has been read
 pub located_begun : (text : List ℕ) (at : ℕ) (r : Reading) → IsBegun r → IsPlacedIn r → IsLocated text at r
 located_begun text at r begun placed = record {
   found = λ i s o name key off.
@@ -109,7 +109,7 @@ located_begun text at r begun placed = record {
       (λ s is. absurd (none-some s (sym (ap (λ fs. set_of (last_frame fs)) begun.no_frames) ∙ is)));
 }
 
--- where nothing is known of the next name
+-- a state in which the next name is unknown
 behind_located : (s : State) (fs : List Frame) (text : List ℕ) (at : ℕ) (r : Reading) → s ≡ state_behind fs → IsNextLocated s text at r
 behind_located s [] text at r is = subst (λ st. IsNextLocated st text at r) (sym is) tt
 behind_located s (f ∷ fs) text at r is = subst (λ st. IsNextLocated st text at r) (sym is) tt
@@ -118,7 +118,7 @@ opened_located : (s : State) (b : Bool) (text : List ℕ) (at : ℕ) (r : Readin
 opened_located s true text at r is = subst (λ st. IsNextLocated st text at r) (sym is) tt
 opened_located s false text at r is = subst (λ st. IsNextLocated st text at r) (sym is) tt
 
--- the same values, with another state
+-- the values stay the same, and the state changes
 pub keeps_found : (old new : Reading) (t : Token) (at : ℕ) → new.found ≡ old.found →
     ((text : List ℕ) (len : ℕ) → 0 < len → IsStringAt text at t len → IsReadTo text at (parts_remaining old) (entries_in old) → IsLocated text at old →
     IsNextLocated new.state text (at + len) new) → KeepsLocated old t at new
@@ -168,7 +168,7 @@ keeps_name old new t at sound placed next same is frames named =
 
 -- ---- a value is added
 
--- the name of a value that is added
+-- the name of the added value
 added_named : {Z : Type 0} (n : Option (String Z × ℕ)) (text name : List ℕ) (at s o : ℕ) → IsNamed text at s n → name_of n ≡ name → next_offset n at ≡ o →
     (o < at) × IsNameAt text o s name
 added_named None text name at s o h name_is off = absurd h
@@ -222,7 +222,7 @@ pub keeps_open : (old mid new : Reading) (t : Token) (at : ℕ) (b : Bool) → i
 keeps_open old mid new t at b value sound adds same is =
     keeps_added old mid new t at value sound adds same (λ text next. opened_located new.state b text next new is)
 
--- where a value is found that is added
+-- the offset of the added value
 module _ (old mid : Reading) (item : Item) (location : Location) (at : ℕ) (placed : IsPlacedIn old)
     (items : mid.found.items.items ≡ old.found.items.items ++ item ∷ []) (locations : mid.found.locations.items ≡ old.found.locations.items ++ location ∷ [])
     (name : string_bytes item.name ≡ name_of old.name) (set : location.set ≡ set_of (last_frame old.frames.items))
@@ -251,7 +251,7 @@ module _ (old mid : Reading) (item : Item) (location : Location) (at : ℕ) (pla
 
 -- ---- a text that is read
 
--- white space is read
+-- reading white space
 pub read_spaces : (text : List ℕ) (at n next : ℕ) (parts : List Part) (es : List Entry) → next ≡ at + n → next ≤ length text →
     ((i : ℕ) → at ≤ i → i < next → is_space (get_or text i 0) ≡ true) → IsReadTo text at parts es → IsReadTo text next parts es
 read_spaces text at zero next parts es is within spaces h = let e : at ≡ next = omega (arith, is) in subst (λ k. IsReadTo text k parts es) e h

@@ -1,4 +1,4 @@
--- Numbers of JSON, and floats.
+-- Numbers in JSON, and floats.
 use Rattle.std.proofs.Common.{◌≡◌, ◌≢◌, ◌∙◌, ℕ, zero, suc, ◌+◌, ◌-◌, ◌^◌, ◌<◌, ◌≤◌, true, false, Bool, lit<, List, [], ◌∷◌, length, get_or, take, drop, ap, sym, refl, subst, arith, inl, inr, Option, Some, None}
 use Rattle.std.specs.Prelude.{unwrap_or, option_map, option_and_then, ◌==◌, ℤ, pos, Result}
 use Rattle.std.specs.Result.{OkIff}
@@ -17,11 +17,11 @@ use Rattle.nix_values.specs.Floats.{without_first}
 use Rattle.nix_values.specs.JsonNumbers.{digits_end, some_digits, whole_end, decimals_end, unsigned_start, number_end, number_value, number_at}
 use Rattle.nix_values.specs.JsonReading.{EndsAscii}
 
--- a digit is a byte of ASCII
+-- a digit is an ASCII byte
 digit_low : (b : ℕ) → is_ascii_digit b ≡ true → b < 128
 digit_low b h = grind (arith, nat_tests)
 
--- a text may be cut after the digits that it begins with
+-- a text may be cut after the digits at its beginning
 pub digits_boundary : (text : List ℕ) → IsUtf8 text → IsCharBoundary text (prefix_len is_ascii_digit text)
 digits_boundary text utf8 =
     let n = prefix_len is_ascii_digit text in
@@ -38,7 +38,7 @@ digits_boundary text utf8 =
           subst (IsCharBoundary text) e (IsCharBoundary-start text utf8)
     ]
 
--- a text may be cut after a first byte of ASCII
+-- a text may be cut after an ASCII byte at its beginning
 pub first_boundary : (text : List ℕ) (b : ℕ) → IsUtf8 text → get_or text 0 0 ≡ b → 0 < b → b < 128 → IsCharBoundary text 1
 first_boundary text b utf8 is some low =
     let there : 0 < length text = elim (cases_lt 0 (length text)) [
@@ -49,14 +49,14 @@ first_boundary text b utf8 is some low =
     let e : 0 + 1 ≡ 1 = refl in
     subst (IsCharBoundary text) e (IsCharBoundary-after_ascii text 0 utf8 there ascii)
 
--- a text may be cut after a byte of ASCII
+-- a text may be cut after an ASCII byte
 pub ascii_boundary : (text : List ℕ) (end : ℕ) → IsUtf8 text → EndsAscii text end → IsCharBoundary text end
 ascii_boundary text end utf8 h =
     let there : end - 1 < length text = omega (arith, h.0, h.1) in
     let e : end - 1 + 1 ≡ end = omega (arith, h.0) in
     subst (IsCharBoundary text) e (IsCharBoundary-after_ascii text (end - 1) utf8 there h.2)
 
--- some digits end after a digit
+-- digits end after an ASCII byte
 pub digits_ascii : (text : List ℕ) (from end : ℕ) → from ≤ length text → end ≡ from + prefix_len is_ascii_digit (drop from text) → end ≢ from →
     EndsAscii text end
 digits_ascii text from end within is some =
@@ -71,7 +71,7 @@ digits_ascii text from end within is some =
     subst (λ k. get_or text k 0 < 128) index_is (subst (λ b. b < 128) (get_or-drop from text (n - 1) 0) low) in
     (omega (arith, is), omega (arith, is), ascii)
 
--- digits are digits
+-- the digits at the beginning of a text are digits of base 10
 digits_front : (b : ℕ) (bs : List ℕ) (e : Bool) → is_ascii_digit b ≡ e → AllDigits 10 (take (prefix_len is_ascii_digit bs) bs) →
     AllDigits 10 (take (prefix_len is_ascii_digit (b ∷ bs)) (b ∷ bs))
 digits_front b bs false h rest = rw h tt
@@ -87,7 +87,7 @@ all_digits : (bs : List ℕ) → AllDigits 10 (take (prefix_len is_ascii_digit b
 all_digits [] = tt
 all_digits (b ∷ bs) = digits_front b bs (is_ascii_digit b) refl (all_digits bs)
 
--- the whole part of a number is digits
+-- the integer part of a number consists of digits
 record IsWhole (from : ℕ) (text : List ℕ) (end : ℕ) : Type 0 where
   count : ℕ
   end_is : end ≡ from + count
@@ -133,7 +133,7 @@ whole_digits from text end true zero_first h =
 whole_digits from text end false other h =
     first_digits_whole from text end (digits_end from text == from) refl (sym (cond-false _ _ _ other) ∙ h)
 
--- without its sign, it is a numeral
+-- a run of decimal digits that is not empty is a numeral
 numeral_of : (k : ℕ) (bs : List ℕ) → 0 < k → k ≤ length bs → AllDigits 10 (take k bs) → IsNumeral 10 (take k bs)
 numeral_of k bs some fits digits = let len : length (take k bs) ≡ k = length-take-le k bs fits in (omega (arith, len, some), digits)
 
@@ -162,7 +162,7 @@ numeral (b ∷ bs) whole h = by (b == 45) refl
         subst (λ n. IsNumeral 10 (without_first 45 (take n (b ∷ bs)))) is
         (numeral_first b part.count bs plain part.some (numeral_of part.count (b ∷ bs) part.some part.within part.digits))
 
--- where a number ends whose whole part ends at a place, and whether it ends there
+-- where a number ends, given the end of its integer part, and whether it is an integer
 abbrev end_with : ℕ → ℕ → ℕ × Bool
 end_with w e = (e, e == w)
 
@@ -174,7 +174,7 @@ ended_whole end w (Some d) h =
     let second : (d == w) ≡ true = ap (λ (o : Option (ℕ × Bool)). (unwrap_or o none).1) h in
     sym (eqb-true d w second) ∙ first
 
--- an integer is a numeral without its sign
+-- an integer without its sign is a numeral
 after_whole : (text : List ℕ) (end : ℕ) (whole : Option ℕ) → whole_end (unsigned_start text) text ≡ whole →
     option_and_then (λ w. option_map (end_with w) (decimals_end w text)) whole ≡ Some (end, true) → IsNumeral 10 (without_first 45 (take end text))
 after_whole text end None is h = absurd (cc)
@@ -184,7 +184,7 @@ after_whole text end (Some w) is h =
 pub integer_numeral : (text : List ℕ) (end : ℕ) → number_end text ≡ Some (end, true) → IsNumeral 10 (without_first 45 (take end text))
 integer_numeral text end h = after_whole text end (whole_end (unsigned_start text) text) refl h
 
--- the number that a text begins with
+-- the number with which a text begins
 pub number_found : (text : List ℕ) (end : ℕ) (is_integer : Bool) (plain : Plain) → number_end text ≡ Some (end, is_integer) →
     number_value is_integer (take end text) ≡ Some plain → number_at text ≡ Some (plain, end)
 unfolding number_at
@@ -203,7 +203,7 @@ pub no_number : (text : List ℕ) → number_end text ≡ None → number_at tex
 unfolding number_at
 no_number text h = ap (option_and_then (λ (n : ℕ × Bool). option_map (λ v. (v, n.0)) (number_value n.1 (take n.0 text)))) h
 
--- what a numeral without a sign is parsed as
+-- a numeral does not begin with a byte that is not a digit
 first_digit : (ds : List ℕ) (b : ℕ) → IsNumeral 10 ds → digit_value b ≡ 36 → get_or ds 0 0 ≢ b
 first_digit [] b h other is = omega (arith, h.0)
 first_digit (d ∷ ds) b h other is = let e : digit_value d ≡ 36 = ap digit_value is ∙ other in omega (arith, e, h.1.0)

@@ -1,4 +1,4 @@
--- What is before the place where a text stops being JSON is the beginning of some JSON.
+-- What precedes the place where a text stops being JSON is the beginning of some JSON text.
 use Rattle.std.proofs.Common.{◌≡◌, ◌∙◌, ℕ, zero, suc, ◌+◌, ◌-◌, ◌≤◌, Bool, true, false, List, [], ◌∷◌, ◌++◌, length, take, ap, sym, refl, arith, Option, Some, None}
 use Rattle.std.specs.Prelude.{option_map, option_and_then}
 use Rattle.std.proofs.lemmas.Option.{none-some, same_Some}
@@ -13,11 +13,11 @@ use Rattle.nix_values.proofs.JsonCompletionLemmas.{completes}
 use Rattle.nix_values.proofs.JsonPrefixLemmas.{cut_at}
 use Rattle.nix_values.proofs.JsonTokenPrefixLemmas.{token_kept, token_fits}
 
--- tokens in front of others
+-- tokens before others
 abbrev all_before : List Token → Option (List Token) → Option (List Token)
 all_before front found = option_map (λ ts. front ++ ts) found
 
--- the tokens of some bytes before the place where these stop: they are the same, whatever follows a blank there, and with them parts are what is left
+-- the tokens of the bytes before the place: they stay the same whatever follows a blank there, and after them the remaining parts are those of the stop
 record IsBefore (parts : List Part) (passed at : ℕ) (bytes : List ℕ) (stop : Stop) : Type 0 where
   pub front : List Token
   pub entries : List Entry
@@ -38,7 +38,7 @@ all_before_more : (t : Token) (front : List Token) (found : Option (List Token))
 all_before_more t front None = refl
 all_before_more t front (Some ts) = refl
 
--- nothing is before the place
+-- nothing precedes the place
 stops_here : (parts : List Part) (at : ℕ) (bytes rest : List ℕ) (stop : Stop) →
     ◌≡◌ {A = Option Stop} (Some (stop_at parts at rest)) (Some stop) → IsBefore parts 0 at bytes stop
 stops_here parts at bytes rest stop e =
@@ -58,7 +58,7 @@ stops_at_end : (parts : List Part) (at : ℕ) (stop : Stop) → stop_at_end part
 stops_at_end [] at stop e = absurd (none-some stop e)
 stops_at_end (part ∷ parts) at stop e = stops_here (part ∷ parts) at [] [] stop e
 
--- one byte more is before it
+-- one more byte precedes it
 cut_more : (k at b : ℕ) (bs rest : List ℕ) (offset : ℕ) → offset - at ≡ suc k → cut_at (offset - at) (b ∷ bs) rest ≡ b ∷ cut_at k bs rest
 cut_more k at b bs rest offset e = ap (λ n. cut_at n (b ∷ bs) rest) e
 
@@ -150,7 +150,7 @@ stops_behind (b ∷ bs) parts (suc passed) at stop e fits =
     passed_more parts passed at b bs stop (stops_behind bs parts passed (suc at) stop e (omega (arith, fits)))
 stops_behind (b ∷ bs) parts zero at stop e fits = by_space parts at b bs (is_space b) stop refl (stops_behind bs) e
 
--- the bytes before the place where a text stops being JSON are JSON, with a blank and the completion of what is still to come
+-- up to the place where a text stops being JSON, with a blank and the completion of the remaining parts, the text is JSON
 pub completed_text : (bytes : List ℕ) (stop : Stop) → json_stop bytes ≡ Some stop →
     (entries : List Entry) × (json_values (take stop.offset bytes ++ 32 ∷ completion stop.parts) ≡ Some entries)
 completed_text bytes stop e = by (tokens_behind 0 (completion stop.parts)) refl (completes stop.parts).1

@@ -1,4 +1,4 @@
--- A number is the same before a blank as before what followed it.
+-- A number stays the same if what follows it is replaced by a blank.
 use Rattle.std.proofs.Common.{◌≡◌, ◌∙◌, ℕ, zero, suc, ◌+◌, ◌-◌, ◌<◌, ◌≤◌, Bool, true, false, List, [], ◌∷◌, ◌++◌, length, get_or, take, drop, ap, sym, refl, arith, ⊎_elim, Option, Some, None}
 use Rattle.std.specs.Prelude.{◌==◌, ◌||◌, option_map, option_and_then, if◌then◌else◌}
 use Rattle.std.specs.List.{prefix_len}
@@ -12,19 +12,19 @@ use Rattle.std.proofs.lemmas.Option.{none-some, same_Some, option_and_then_some}
 use Rattle.nix_values.specs.Contents.{Plain}
 use Rattle.nix_values.specs.JsonNumbers.{digits_end, some_digits, whole_end, fraction_end, exponent_end, decimals_end, unsigned_start, number_end, number_value, number_at}
 
--- the branch that gives something
+-- if a conditional returns a value, one of its branches does
 pub if_some : {A P : Type 0} (c : Bool) (x y : Option A) (r : A) → (if c then x else y) ≡ Some r → (c ≡ true → x ≡ Some r → P) → (c ≡ false → y ≡ Some r →
     P) → P
 if_some true x y r e f g = f refl e
 if_some false x y r e f g = g refl e
 
--- the same branch gives the same
+-- if the branches still return the value, so does the conditional
 pub if_kept : {A : Type 0} (c : Bool) (x x' y y' : Option A) (r : A) → (if c then x else y) ≡ Some r → (x ≡ Some r → x' ≡ Some r) → (y ≡ Some r → y' ≡ Some r) →
     (if c then x' else y') ≡ Some r
 if_kept true x x' y y' r e f g = f e
 if_kept false x x' y y' r e f g = g e
 
--- a text, cut, with a blank behind it
+-- a text cut at an offset, followed by a blank and a rest
 abbrev pub cut_at : ℕ → List ℕ → List ℕ → List ℕ
 cut_at m text rest = take m text ++ 32 ∷ rest
 
@@ -75,7 +75,7 @@ module _ (m : ℕ) (text rest : List ℕ) (within : m ≤ length text) where
       ap (λ l. from + prefix_len is_ascii_digit l) (drop_cut from m text rest inside within)
       ∙ ap (λ k. from + k) (digits_cut (m - from) (drop from text) rest room)
 
-  -- digits that must be there
+  -- digits that are required
   some_more : (from w : ℕ) (none : Bool) → digits_end from text == from ≡ none → some_digits from text ≡ Some w → (digits_end from text ≡ w) × (from < w)
   some_more from w true none e = absurd (none-some w (sym (cond-true (digits_end from text == from) None (Some (digits_end from text)) none) ∙ e))
   some_more from w false none e =
@@ -103,7 +103,7 @@ module _ (m : ℕ) (text rest : List ℕ) (within : m ≤ length text) where
           let less : from < m = omega (arith, digits.1, h) in
           (cond-false (get_or cut from 0 == 48) (Some (from + 1)) (some_digits from cut) (ap (λ b. b == 48) (byte_same from less) ∙ is) ∙ digits.0, digits.1)
 
-  -- a byte that is not looked for is not there behind the cut
+  -- a byte that fails a test in the text also fails it in the cut text, if a blank fails it
   test_false : (p : ℕ → Bool) (at : ℕ) → p 32 ≡ false → p (get_or text at 0) ≡ false → at ≤ m → p (get_or cut at 0) ≡ false
   test_false p at blank other h =
       ⊎_elim
@@ -185,7 +185,7 @@ module _ (m : ℕ) (text rest : List ℕ) (within : m ≤ length text) where
   start_same : 0 < m → unsigned_start cut ≡ unsigned_start text
   start_same some = ap (λ b. if b == 45 then 1 else 0) (byte_same 0 some)
 
-  -- the end of a number
+  -- a number ends at the same offset
   number_end_same : (n : ℕ × Bool) → number_end text ≡ Some n → n.0 ≤ m → number_end cut ≡ Some n
   number_end_same n e h =
       option_and_then_some (λ whole. option_map (λ end. (end, end == whole)) (decimals_end whole text)) (whole_end (unsigned_start text) text) n e

@@ -1,4 +1,4 @@
--- The error of a JSON text whose tokens are taken one by one.
+-- The error of a JSON text whose tokens are read one by one.
 use Rattle.std.proofs.Common.{◌≡◌, ◌∙◌, ℕ, ◌+◌, ◌-◌, ◌<◌, ◌≤◌, true, false, List, [], ◌∷◌, ◌++◌, length, get_or, drop, ap, ap₂, sym, refl, subst, arith, ⊎_elim, inl, inr, Option, Some, None}
 use Rattle.std.specs.Prelude.{option_map, Ok, Err}
 use Rattle.nix_values.specs.declared.json_reader.State.TheVariants as state
@@ -21,22 +21,22 @@ use Rattle.nix_values.proofs.JsonReasonLemmas.{expected_in}
 use Rattle.nix_values.proofs.JsonPlaceLemmas.{completed_text}
 use Rattle.nix_values.proofs.JsonErrorLemmas.{spaces_between, no_token_stop, unfit_token_stop, no_token_error, unfit_token_error, fit_token_error, end_of_text}
 
--- a text stops being JSON where the rest does
+-- a text stops being JSON where the rest of it does
 abbrev pub StopsFrom : List ℕ → ℕ → Reading → Type 0
 StopsFrom bytes at r = json_stop bytes ≡ stop_in (parts_remaining r) 0 at (drop at bytes)
 
--- bytes are white space
+-- the bytes between two offsets are white space
 abbrev pub AreSpaces : List ℕ → ℕ → ℕ → Type 0
 AreSpaces bytes from to = (i : ℕ) → from ≤ i → i < to → is_space (get_or bytes i 0) ≡ true
 
--- nothing is read yet
+-- nothing has been read
 pub stops_begun : (bytes : List ℕ) (at : ℕ) (r : Reading) → IsBegun r → at ≤ length bytes → AreSpaces bytes 0 at → StopsFrom bytes at r
 stops_begun bytes at r begun within spaces =
     let e : at ≡ 0 + at = omega arith in
     spaces_between (value 0 [] ∷ []) bytes 0 at at e within spaces
     ∙ ap (λ ps. stop_in ps 0 at (drop at bytes)) (remaining_in r state.Value [] [] begun.is_state begun.no_frames begun.no_name)
 
--- what a token is, if it is a string
+-- a token that is a string begins at its offset
 token_string : (text : List ℕ) (at : ℕ) (t : Token) (len : ℕ) → IsTokenAt text at t len → IsStringAt text at t len
 token_string text at (string name) len h = h
 token_string text at (opening b) len h = tt
@@ -45,7 +45,7 @@ token_string text at comma len h = tt
 token_string text at colon len h = tt
 token_string text at (scalar p) len h = tt
 
--- names are where they begin, as far as a text is read
+-- the names begin at their offsets, up to where the text has been read
 pub record IsReadIn (text : List ℕ) (at : ℕ) (r : Reading) : Type 0 where
   pub read : IsReadTo text at (parts_remaining r) (entries_in r)
   pub located : IsLocated text at r
@@ -80,7 +80,7 @@ read_taken (Some t) text at end next old new so_far there solid onward past is t
           (takes.located text (end - at) some (token_string text at t (end - at) is) so_far.read so_far.located));
     }
 
--- a text stops where it is read to
+-- a text stops where it has been read to
 stopped_at : (bytes : List ℕ) (at : ℕ) (r : Reading) (error : JsonError) → IsSound r → IsPlacedIn r → IsDistinct r → IsReadIn bytes at r →
     json_stop bytes ≡ Some (stop_at (parts_remaining r) at (drop at bytes)) → json_error bytes ≡ Some error → IsJsonError bytes error
 stopped_at bytes at r error sound placed distinct so_far stops is = inl (record {
@@ -95,7 +95,7 @@ stopped_at bytes at r error sound placed distinct so_far stops is = inl (record 
   begins = (completed_text bytes (stop_at (parts_remaining r) at (drop at bytes)) stops).1;
 })
 
--- a name that a set has already
+-- a name that its set already has
 repeats : (t : Token) (text : List ℕ) (at len : ℕ) (r : Reading) (error : JsonError) → IsSound r → IsPlacedIn r → IsDistinct r → IsReadIn text at r →
     IsTokenAt text at t len →
     IsRepeat r t at error → IsRepeated text error
@@ -121,7 +121,7 @@ repeats t text at len r error sound placed distinct so_far token again =
       distinct = there.1;
     }
 
--- a token is taken
+-- a token is accepted
 pub stops_taken : (found : Option Token) (bytes : List ℕ) (at end next : ℕ) (old new : Reading) → StopsFrom bytes at old → at < length bytes →
     is_space (get_or bytes at 0) ≡ false → at < end → end ≤ length bytes →
     token_at (get_or bytes at 0) (drop (at + 1) bytes) ≡ option_map (λ t. (t, end - at)) found →
@@ -154,7 +154,7 @@ error_wrong (Some t) (Refused error) bytes at end old new so_far sound placed di
     (λ again. inr (repeats t bytes at (end - at) old error sound placed distinct read is again))
     h.1
 
--- there is no token
+-- no token begins here
 pub error_none : (stop : JsonStop) (bytes : List ℕ) (at : ℕ) (r : Reading) → StopsFrom bytes at r → IsSound r → IsPlacedIn r → IsDistinct r →
     IsReadIn bytes at r → at < length bytes → is_space (get_or bytes at 0) ≡ false →
     IfRefused stop (token_at (get_or bytes at 0) (drop (at + 1) bytes) ≡ None) →

@@ -11,16 +11,16 @@ use Rattle.nix_values.proofs.JsonTokenLemmas.{fitting_token, repeating_token, wr
 use Rattle.nix_values.proofs.JsonStateLemmas.{nothing_remaining, something_remaining}
 use Rattle.nix_values.proofs.JsonReadingLemmas.{stopped_text, stopped_map, stopped_refused, remaining_in, sound_in}
 
--- the values so far are in front of those that the rest of a text means
+-- the values so far come before those that the rest of the text means
 abbrev pub IsReadUpTo : List ℕ → ℕ → Reading → Type 0
 IsReadUpTo bytes at r = json_values bytes ≡ in_front (entries_in r) (values_of (parts_remaining r) (drop at bytes))
 
--- nothing is in front
+-- no values before others change nothing
 in_front_none : (es : Option (List Entry)) → in_front [] es ≡ es
 in_front_none None = refl
 in_front_none (Some es) = refl
 
--- nothing is read yet
+-- nothing has been read
 pub read_begun : (bytes : List ℕ) (at : ℕ) (r : Reading) → IsBegun r → tokens_behind 0 (drop at bytes) ≡ tokens_behind 0 (drop 0 bytes) →
     IsReadUpTo bytes at r
 read_begun bytes at r begun space =
@@ -32,7 +32,7 @@ read_begun bytes at r begun space =
 pub begun_sound : (r : Reading) → IsBegun r → IsSound r
 begun_sound r begun = sound_in r state.Value [] [] begun.is_state begun.no_frames begun.no_name tt
 
--- a token is read
+-- a token is accepted
 pub read_token : (found : Option Token) (bytes : List ℕ) (at end next : ℕ) (old new : Reading) → IsReadUpTo bytes at old → at < length bytes →
     is_space (get_or bytes at 0) ≡ false → at < end → token_at (get_or bytes at 0) (drop (at + 1) bytes) ≡ option_map (λ t. (t, end - at)) found →
     FoundOrNot (Ok tt) old found at new → tokens_behind 0 (drop next bytes) ≡ tokens_behind 0 (drop end bytes) →
@@ -58,7 +58,7 @@ read_wrong_token (Some t) stop bytes at end old new so_far there solid onward is
     (λ wrong. wrong_token (json_values bytes) (parts_remaining old) bytes at end t (entries_in old) so_far there solid onward is wrong)
     (λ repeats. repeating_token (json_values bytes) (parts_remaining old) bytes at end t (entries_in old) so_far there solid onward is repeats) h.0
 
--- there is no token
+-- no token begins here
 pub read_no_token : (stop : JsonStop) (bytes : List ℕ) (at : ℕ) (r : Reading) → IsReadUpTo bytes at r → at < length bytes →
     is_space (get_or bytes at 0) ≡ false → IfRefused stop (token_at (get_or bytes at 0) (drop (at + 1) bytes) ≡ None) →
     IfStopped stop (json_values bytes ≡ None) (RepeatsIn bytes)

@@ -18,7 +18,7 @@ use Rattle.nix_values.specs.JsonErrors.{error_at, unfitting}
 use Rattle.nix_values.proofs.JsonReasonLemmas.{plain_unfit}
 use Rattle.nix_values.proofs.JsonStateLemmas.{rest_pop, parts_behind, state_sound, scalar_fits, name_fits, string_scalar, opened_sound, open_fits, close_fits, behind_comma, comma_fits, comma_sound, colon_fits, none_inside}
 
--- what a refusal may say
+-- what a refusal of a token says
 pub stopped : (stop : JsonStop) (old : Reading) (token : Token) (at : ℕ) → parts_from (parts_remaining old) token ≡ None →
     stop ≡ Refused (error_at (unfitting (parts_remaining old) token) at) →
     IfStopped stop (parts_from (parts_remaining old) token ≡ None) (RepeatsWith old token) × IsTokenError stop old token at
@@ -36,14 +36,14 @@ pub refused : (stop : JsonStop) (none : Type 0) → none → IfRefused stop none
 refused Memory none h = tt
 refused (Refused error) none h = h
 
--- no name is known where none is needed
+-- no name is known in a state that needs none
 no_name : (s : State) (fs : List Frame) (name : List ℕ) → is_close_next s ≡ true → IsState s fs name → name ≡ []
 no_name state.ValueOrClose fs name next h = h.1
 no_name state.NameOrClose fs name next h = h.1
 no_name state.CommaOrClose fs name next h = h.1
 no_name _ fs name next h = absurd (cc)
 
--- what is left, and sound, in a state with frames and a name
+-- the remaining parts and the soundness of a reading, given its state, its frames and its name
 pub remaining_in : (r : Reading) (s : State) (fs : List Frame) (name : List ℕ) → r.state ≡ s → r.frames.items ≡ fs → name_of r.name ≡ name →
     parts_in s fs name ≡ parts_remaining r
 remaining_in r s fs name s_is fs_is name_is =
@@ -55,7 +55,7 @@ sound_in r s fs name s_is fs_is name_is h =
     subst (λ t. IsState t r.frames.items (name_of r.name)) (sym s_is)
     (subst (λ gs. IsState s gs (name_of r.name)) (sym fs_is) (subst (IsState s fs) (sym name_is) h))
 
--- a value that holds no values
+-- a value that contains no others
 pub takes_scalar : (old mid new : Reading) (at : ℕ) (p : Plain) → IsSound old → is_value_next old.state ≡ true → IsAdded old p mid →
     new.state ≡ state_behind mid.frames.items → new.frames.items ≡ mid.frames.items → name_of new.name ≡ name_of mid.name →
     entries_in new ≡ entries_in mid → IsPlacedIn new → IsDistinct new → KeepsLocated old (scalar p) at new → Takes old (scalar p) at new
@@ -179,7 +179,7 @@ takes_colon old new at next s_is fs_is name_is es_is placed distinct located =
       located = located;
     }
 
--- what a refusal says of one text, it says of another
+-- if a refusal says P and P implies Q, it says Q
 pub refused_map : (stop : JsonStop) (P Q : Type 0) → (P → Q) → IfRefused stop P → IfRefused stop Q
 refused_map Memory P Q f h = tt
 refused_map (Refused error) P Q f h = f h
@@ -193,7 +193,7 @@ pub stopped_refused : (stop : JsonStop) (P : Type 0) (bytes : List ℕ) → (P �
 stopped_refused Memory P bytes f h = tt
 stopped_refused (Refused error) P bytes f h = stopped_text (Refused error) bytes (f h)
 
--- the error of a value that is a string is that of the string
+-- the error of a string that is taken as a value is that of the string
 text_error : (stop : JsonStop) (old : Reading) (t : List ℕ) (at : ℕ) →
     parts_from (parts_remaining old) (string t) ≡ parts_from (parts_remaining old) (scalar (text t)) → IsTokenError stop old (scalar (text t)) at →
     IsTokenError stop old (string t) at
@@ -208,7 +208,7 @@ text_error (Refused error) old t at same h =
     (λ again. let other : scalar (text t) ≡ string again.name = again.token_is in absurd (cc))
     h
 
--- a string where no name is next is a value
+-- a string is a value unless a name comes next
 pub text_taken : (r : Result (Unit {0}) JsonStop) (old new : Reading) (t : List ℕ) (at : ℕ) → is_name_next old.state ≡ false → IsSound old →
     TakesOrNot r old (scalar (text t)) at new → TakesOrNot r old (string t) at new
 text_taken (Ok x) old new t at next sound h = record {

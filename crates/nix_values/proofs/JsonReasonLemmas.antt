@@ -1,4 +1,4 @@
--- What is missing where a token does not fit.
+-- What is missing if a token does not fit.
 use Rattle.std.proofs.Common.{◌≡◌, ◌∙◌, ℕ, ◌+◌, ◌-◌, ◌<◌, true, false, Bool, List, [], ◌∷◌, length, ap, sym, refl, arith, ⊎_elim, Some}
 use Rattle.std.proofs.lemmas.Option.{get_or_from_slice_get}
 use Rattle.nix_values.specs.declared.json_reader.State.{State}
@@ -15,7 +15,7 @@ use Rattle.nix_values.specs.JsonReading.{more_of, rest_of, parts_in, parts_remai
 use Rattle.nix_values.proofs.JsonStateLemmas.{inside_last}
 use Rattle.nix_values.proofs.JsonLocationLemmas.{last_cases}
 
--- ---- the state knows what is missing
+-- ---- the state determines what is missing
 
 expected_more : (b : Bool) (f : Frame) (d : ℕ) (ps : List Part) → f.is_set ≡ b → expected (more_of b d ∷ ps) ≡ comma_reason (Some f)
 expected_more true f d ps is = rw is refl
@@ -99,7 +99,7 @@ deep_unfit state.Value fs name c next = refl
 deep_unfit state.ValueOrClose fs name c next = refl
 deep_unfit _ fs name c next = absurd (cc)
 
--- the refusals that the states make
+-- the refusals in each state
 pub plain_stop : (stop : JsonStop) (r : Reading) (t : Token) (at : ℕ) → IsSound r → is_opening t ≡ false →
     stop ≡ Refused (error_at (reason_in r.state r.frames.items) at) → stop ≡ Refused (error_at (unfitting (parts_remaining r) t) at)
 plain_stop stop r t at sound plain is =

@@ -1,4 +1,4 @@
--- A name in JSON that a set has already.
+-- A name in JSON that its set already has.
 use Rattle.std.proofs.Common.{◌≡◌, ◌∙◌, ℕ, ◌+◌, ◌-◌, ◌<◌, true, false, List, [], ◌∷◌, ◌++◌, length, Option, Some, None, sym, refl, ap, subst, arith}
 use Rattle.std.specs.Prelude.{nat_lt, option_and_then, option_map}
 use Rattle.std.proofs.lemmas.Bool.{cond-true}
@@ -18,7 +18,7 @@ use Rattle.nix_values.proofs.JsonStateLemmas.{inside_last, one_sort, name_fits}
 use Rattle.nix_values.proofs.RepeatedNameLemmas.{key_within, repeated}
 use Rattle.nix_values.proofs.JsonLocationLemmas.{next_key}
 
--- values begin with one that has a depth and a name
+-- the first of the values has this depth and name
 abbrev Begins : ℕ → List ℕ → List Entry → Type 0
 Begins d t more = (p : Plain) × (ys : List Entry) × (more ≡ record { depth = d; name = t; plain = p } ∷ ys)
 
@@ -68,7 +68,7 @@ bytes_begin d t ps rest more e = by (tokens_behind 0 rest) e
     by None e = absurd (none-some more e)
     by (Some tokens) e = named_begins d t ps tokens more e
 
--- a name comes next only in a set
+-- a name can come next only in a set
 pub name_inside : (s : State) (fs : List Frame) (name : List ℕ) → is_name_next s ≡ true → IsState s fs name → IsInside true fs
 name_inside state.Name fs name next h = h.0
 name_inside state.NameOrClose fs name next h = h.0

@@ -1,4 +1,4 @@
--- What the states of the reader of JSON do with each token.
+-- How the states of the reader of JSON handle each token.
 use Rattle.std.proofs.Common.{◌≡◌, ◌∙◌, ℕ, suc, ◌+◌, ◌-◌, ◌<◌, ◌≤◌, true, false, Bool, List, [], ◌∷◌, ◌++◌, length, get_or, take, drop, ap, ap₂, sym, refl, subst, arith, lt-ltb, le-ltb, Some, None}
 use Rattle.std.specs.Prelude.{nat_lt, option_map}
 use Rattle.std.proofs.Math.Seq.{take-length}
@@ -12,9 +12,9 @@ use Rattle.nix_values.specs.Contents.{Plain, text}
 use Rattle.nix_values.specs.Json.{Token, opening, closing, comma, colon, string, scalar, Part, value, first_item, more_items, first_member, member, named, Taken, entry, value_from, then_part, parts_from}
 use Rattle.nix_values.specs.JsonReading.{more_of, rest_from, rest_of, parts_in, IsInside, IsState, is_value_next, is_name_next, is_close_next, is_comma_next, is_colon_next, is_end, opened, opened_plain, state_behind}
 
--- ---- the opening lists and sets
+-- ---- the open lists and sets
 
--- one more inside the others
+-- one more frame inside the others
 rest_push : (d : ℕ) (fs : List Frame) (f : Frame) (ps : List Part) →
     rest_from d (fs ++ f ∷ []) ps ≡ more_of f.is_set (d + length fs + 1) ∷ rest_from d fs ps
 rest_push d [] f ps = let e : d + 1 ≡ d + 0 + 1 = omega arith in ap (λ n. more_of f.is_set n ∷ ps) e
@@ -29,7 +29,7 @@ rest_last fs f = let e : 0 + length fs + 1 ≡ length fs + 1 = omega arith in re
 pub length_last : (fs : List Frame) (f : Frame) → length (fs ++ f ∷ []) ≡ length fs + 1
 length_last fs f = length-append fs (f ∷ [])
 
--- the last one is the innermost
+-- the last frame is the innermost
 last_of : (fs : List Frame) (n : ℕ) (f : Frame) → length fs ≡ n + 1 → fs ≡ take n fs ++ get_or fs n f ∷ []
 last_of fs n f len =
     let there : n < length fs = omega (arith, len) in
@@ -45,18 +45,18 @@ inside_last fs n f len is =
     inside_of fs (take n fs) f (last_of fs n f len ∙ ap (λ g. take n fs ++ g ∷ []) (sym is)) in
     e ∙ ap (λ ps. more_of f.is_set (length fs) ∷ ps) (sym (ap (drop 1) e))
 
--- some frame
+-- an arbitrary frame
 abbrev no_frame : Frame
 no_frame = record { node = 0; is_set = false }
 
--- without the innermost one
+-- the frames without the innermost one
 pub rest_pop : (fs new : List Frame) → 0 < length fs → new ≡ take (length fs - 1) fs → rest_of new ≡ drop 1 (rest_of fs)
 rest_pop fs new some is =
     let n = length fs - 1 in
     let len : length fs ≡ n + 1 = omega arith in
     ap rest_of is ∙ sym (ap (drop 1) (inside_of fs (take n fs) (get_or fs n no_frame) (last_of fs n no_frame len)))
 
--- some are opening
+-- if frames are open, the innermost is a list or a set
 pub some_inside : (fs : List Frame) → 0 < length fs → (b : Bool) × IsInside b fs
 some_inside fs some =
     let n = length fs - 1 in
@@ -65,11 +65,11 @@ some_inside fs some =
     let e : rest_of fs ≡ more_of f.is_set (length fs) ∷ rest_of (take n fs) = inside_of fs (take n fs) f (last_of fs n no_frame len) in
     (f.is_set, e ∙ ap (λ ps. more_of f.is_set (length fs) ∷ ps) (sym (ap (drop 1) e)))
 
--- none is opening
+-- if no frame is open, there is no innermost one
 pub none_inside : (b : Bool) (fs : List Frame) → fs ≡ [] → IsInside b fs → ⊥
 none_inside b fs none inside = let e : [] ≡ more_of b (length fs) ∷ drop 1 (rest_of fs) = sym (ap rest_of none) ∙ inside in absurd (cc)
 
--- the innermost one is of one sort
+-- the innermost frame is a list or a set, not both
 more_sort : (b c : Bool) (d : ℕ) (ps qs : List Part) → more_of b d ∷ ps ≡ more_of c d ∷ qs → b ≡ c
 more_sort true true d ps qs e = refl
 more_sort false false d ps qs e = refl
@@ -89,7 +89,7 @@ pub state_sound : (fs : List Frame) (name : List ℕ) → name ≡ [] → IsStat
 state_sound [] name none = (refl, none)
 state_sound (f ∷ fs) name none = (omega arith, none)
 
--- a token that may only begin a value does not fit after one
+-- a token that can only begin a value does not fit after a value
 more_scalar : (b : Bool) (d : ℕ) (ps : List Part) (p : Plain) → parts_from (more_of b d ∷ ps) (scalar p) ≡ None
 more_scalar true d ps p = refl
 more_scalar false d ps p = refl
@@ -106,7 +106,7 @@ more_colon : (b : Bool) (d : ℕ) (ps : List Part) → parts_from (more_of b d �
 more_colon true d ps = refl
 more_colon false d ps = refl
 
--- so a token that does not fit after a value fits nowhere after one
+-- so a token that fits after no value does not fit what remains after one
 behind_wrong : (t : Token) → ((b : Bool) (d : ℕ) (ps : List Part) → parts_from (more_of b d ∷ ps) t ≡ None) → (fs : List Frame) → 0 < length fs →
     parts_from (rest_of fs) t ≡ None
 behind_wrong t wrong fs some =
@@ -116,7 +116,7 @@ behind_wrong t wrong fs some =
 end_wrong : (t : Token) (fs : List Frame) → fs ≡ [] → parts_from (rest_of fs) t ≡ None
 end_wrong t fs none = ap (λ gs. parts_from (rest_of gs) t) none
 
--- ---- a value that holds no values
+-- ---- a value that contains no others
 
 pub scalar_fits : (s : State) (fs : List Frame) (name : List ℕ) (p : Plain) → is_value_next s ≡ true → IsState s fs name →
     parts_from (parts_in s fs name) (scalar p) ≡ Some (rest_of fs, entry (length fs) name p)
@@ -137,7 +137,7 @@ scalar_wrong state.End fs name p next h = end_wrong (scalar p) fs h.0
 
 -- ---- a string
 
--- where no name is next, a string is a value
+-- a string is a value unless a name comes next
 pub string_scalar : (s : State) (fs : List Frame) (name t : List ℕ) → is_name_next s ≡ false → IsState s fs name →
     parts_from (parts_in s fs name) (scalar (text t)) ≡ parts_from (parts_in s fs name) (string t)
 string_scalar state.Value fs name t next h = refl
@@ -157,7 +157,7 @@ name_fits _ fs name t next h = absurd (cc)
 
 -- ---- the beginning of a list or a set
 
--- what may come next inside it
+-- what may come next after the opening bracket
 abbrev first_of : Bool → ℕ → Part
 first_of true d = first_member d
 first_of false d = first_item d
@@ -177,7 +177,7 @@ parts_opened true fs f name =
 parts_opened false fs f name =
     ap₂ (λ (d : ℕ) (ps : List Part). first_item d ∷ ps) (sym (length_last fs f)) (sym (ap (drop 1) (rest_last fs f)))
 
--- parts after what a part is followed by
+-- parts after those that follow a part
 abbrev over : List Part → Taken → Taken
 over ps taken = option_map (λ r. (r.0 ++ ps, r.1)) taken
 
@@ -210,7 +210,7 @@ open_deep b state.ValueOrClose fs name next deep =
     ap (λ taken. over (drop 1 (rest_of fs)) (then_part (more_items (length fs)) taken)) (value_deep b (length fs) [] (le-ltb (length fs) MOST_DEPTH deep))
 open_deep _ _ fs name next deep = absurd (cc)
 
--- inside it
+-- the new frame is the innermost
 inside_opened : (fs : List Frame) (f : Frame) → IsInside f.is_set (fs ++ f ∷ [])
 inside_opened fs f =
     let e : rest_of (fs ++ f ∷ []) ≡ more_of f.is_set (length (fs ++ f ∷ [])) ∷ rest_of fs = inside_of (fs ++ f ∷ []) fs f refl in
@@ -256,7 +256,7 @@ no_member_close : (b : Bool) (d : ℕ) (ps : List Part) → (true ≡ b → ⊥)
 no_member_close false d ps h = refl
 no_member_close true d ps h = absurd (h refl)
 
--- another sort is opening
+-- the innermost frame is of the other kind
 pub close_other : (b c : Bool) (s : State) (fs : List Frame) (name : List ℕ) → IsInside b fs → (b ≡ c → ⊥) → IsState s fs name →
     parts_from (parts_in s fs name) (closing c) ≡ None
 close_other b c state.Value fs name inside other h = refl
@@ -270,7 +270,7 @@ close_other b c state.CommaOrClose fs name inside other h =
     ap (λ ps. parts_from ps (closing c)) inside ∙ other_close b c (length fs) (drop 1 (rest_of fs)) other
 close_other b c state.End fs name inside other h = end_wrong (closing c) fs h.0
 
--- no end is next
+-- no closing bracket may come next
 pub close_wrong : (b : Bool) (s : State) (fs : List Frame) (name : List ℕ) → is_close_next s ≡ false → IsState s fs name →
     parts_from (parts_in s fs name) (closing b) ≡ None
 close_wrong b state.Value fs name next h = refl
@@ -281,7 +281,7 @@ close_wrong b state.Colon fs name next h = refl
 close_wrong b state.CommaOrClose fs name next h = absurd (cc)
 close_wrong b state.End fs name next h = end_wrong (closing b) fs h.0
 
--- nothing is opening
+-- no frame is open
 pub close_none : (b : Bool) (s : State) (fs : List Frame) (name : List ℕ) → fs ≡ [] → IsState s fs name → parts_from (parts_in s fs name) (closing b) ≡ None
 close_none b state.Value fs name none h = refl
 close_none b state.ValueOrClose fs name none h = absurd (none_inside false fs none h.0)
@@ -324,7 +324,7 @@ comma_wrong state.Colon fs name other h = refl
 comma_wrong state.CommaOrClose fs name other h = absurd (cc)
 comma_wrong state.End fs name other h = end_wrong comma fs h.0
 
--- nothing is opening
+-- no frame is open
 pub comma_none : (s : State) (fs : List Frame) (name : List ℕ) → fs ≡ [] → IsState s fs name → parts_from (parts_in s fs name) comma ≡ None
 comma_none state.CommaOrClose fs name none h = let len : length fs ≡ 0 = ap length none in absurd (omega (arith, len, h.0))
 comma_none state.Value fs name none h = refl

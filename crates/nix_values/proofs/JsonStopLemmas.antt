@@ -15,7 +15,7 @@ Decides None (Some es) = Unit {0}
 Decides (Some stop) None = Unit {0}
 Decides (Some stop) (Some es) = ⊥
 
--- values in front change nothing
+-- values before others change nothing
 front : (stop : Option Stop) (es : List Entry) (found : Option (List Entry)) → Decides stop found → Decides stop (in_front es found)
 front None es None h = h
 front None es (Some more) h = h
@@ -25,7 +25,7 @@ front (Some stop) es (Some more) h = h
 decides_by : (stop other : Option Stop) (found values : Option (List Entry)) → stop ≡ other → found ≡ values → Decides other values → Decides stop found
 decides_by stop other found values s v h = subst (λ x. Decides x found) (sym s) (subst (λ y. Decides other y) (sym v) h)
 
--- the values of bytes, behind so many that are passed over
+-- the values of bytes, after those that are skipped
 abbrev values_behind : List Part → ℕ → List ℕ → Option (List Entry)
 values_behind parts passed bytes = option_and_then (meaning parts) (tokens_behind passed bytes)
 
@@ -43,7 +43,7 @@ at_end : (parts : List Part) (at : ℕ) → Decides (stop_at_end parts at) (none
 at_end [] at = tt
 at_end (part ∷ parts) at = tt
 
--- the bytes behind the first one decide
+-- the bytes after the first one decide
 abbrev DecidesBehind : List ℕ → Type 0
 DecidesBehind bs = (parts : List Part) (passed at : ℕ) → Decides (stop_in parts passed at bs) (values_behind parts passed bs)
 
@@ -85,6 +85,6 @@ decides parts (suc passed) at [] = at_end parts at
 decides parts (suc passed) at (b ∷ bs) = decides parts passed (suc at) bs
 decides parts zero at (b ∷ bs) = by_space parts at b bs (is_space b) refl (λ ps passed place. decides ps passed place bs)
 
--- a text has no place where it stops exactly if it is JSON
+-- there is a place where a text stops exactly if the text is not JSON
 pub json_or_stop : (bytes : List ℕ) → Decides (json_stop bytes) (json_values bytes)
 json_or_stop bytes = decides (value 0 [] ∷ []) 0 0 bytes

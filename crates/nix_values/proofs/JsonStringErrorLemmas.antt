@@ -13,17 +13,17 @@ use Rattle.nix_values.specs.JsonErrors.{error_at, if_found, no_escape, no_charac
 use Rattle.nix_values.specs.JsonReading.{IfRefused, IsRefusal}
 use Rattle.nix_values.proofs.JsonContentLemmas.{head_is, run_stops}
 
--- a refusal with an error
+-- a refusal with an error is for that error
 pub refusal : (stop : JsonStop) (e wanted : JsonError) → stop ≡ Refused e → e ≡ wanted → IsRefusal stop wanted
 refusal stop e wanted is same = subst (λ s. IsRefusal s wanted) (sym is) same
 
--- a refusal of what is none
+-- a refusal that says that nothing was read is for an error, if that is the error then
 pub none_refusal : (stop : JsonStop) (none : Type 0) (e wanted : JsonError) → IfRefused stop none → IsRefusal stop e → (none → e ≡ wanted) →
     IsRefusal stop wanted
 none_refusal Memory none e wanted h is same = tt
 none_refusal (Refused error) none e wanted h is same = is ∙ same h
 
--- bytes are passed over
+-- skipping bytes
 string_after : (quote n at : ℕ) (bs : List ℕ) → n ≤ length bs → string_error quote n at bs ≡ string_error quote 0 (at + n) (drop n bs)
 unfolding string_error
 string_after quote zero at bs h = let e : at ≡ at + 0 = omega arith in ap (λ k. string_error quote 0 k bs) e
@@ -33,7 +33,7 @@ string_after quote (suc n) at (b ∷ bs) h =
     let e : suc at + n ≡ at + suc n = omega arith in
     string_after quote n (suc at) bs rest ∙ ap (λ k. string_error quote 0 k (drop n bs)) e
 
--- a byte that needs no escape, and one that is not allowed
+-- if two tests fail, the last of three choices is taken
 last_of_three : {A : Type 0} (x y z : Bool) (p q r : A) → not z && (not x && not y) ≡ true → (if y then p else (if z then q else r)) ≡ r
 last_of_three x false false p q r h = refl
 last_of_three true y false p q r h = absurd (cc)
@@ -109,13 +109,13 @@ error_escape start text remaining bs rest c n within some is behind_is found fit
     h quote ∙ ap (string_error quote 0 at) front ∙ escape_byte quote at bs (Some (c, n)) found ∙ string_after quote n (suc at) bs fits
     ∙ ap₂ (string_error quote 0) place (sym rest_is)
 
--- the string does not end
+-- the string has no closing quote
 pub error_open : (start quote : ℕ) (text remaining : List ℕ) → HasErrorIn start text remaining → remaining ≡ [] →
     error_at OpenString quote ≡ string_error quote 0 start text
 unfolding string_error
 error_open start quote text remaining h none = sym (h quote ∙ ap (string_error quote 0 (start + (length text - length remaining))) none)
 
--- a byte is not allowed
+-- a byte that is not allowed
 pub error_control : (start quote at : ℕ) (text rest remaining : List ℕ) → HasErrorIn start text remaining → remaining ≡ drop (prefix_len is_plain rest) rest →
     0 < length remaining → (get_or remaining 0 0 ≡ 34 → ⊥) → (get_or remaining 0 0 ≡ 92 → ⊥) → at ≡ start + (length text - length remaining) →
     error_at (no_character (get_or remaining 0 0)) at ≡ string_error quote 0 start text
@@ -126,7 +126,7 @@ error_control start quote at text rest remaining h is some no_34 no_92 place =
     ∙ control_byte quote (start + (length text - length remaining)) b (drop 1 remaining) (run_stops rest remaining is some) (ne_eqb b 34 no_34)
     (ne_eqb b 92 no_92))
 
--- an escape is none
+-- a backslash that begins no escape
 pub error_no_escape : (start quote at : ℕ) (text remaining bs : List ℕ) → HasErrorIn start text remaining → 0 < length remaining →
     get_or remaining 0 0 ≡ 92 → bs ≡ drop 1 remaining → escape_at bs ≡ None → at ≡ start + (length text - length remaining) →
     error_at (no_escape bs) at ≡ string_error quote 0 start text

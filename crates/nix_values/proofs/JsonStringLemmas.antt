@@ -6,11 +6,11 @@ use Rattle.std.proofs.lemmas.List.Sums.{prefix_len-le-length, prefix_len_stops}
 use Rattle.std.specs.{Str.{IsCharBoundary, IsUtf8}, List.{flat_map, prefix_len}}
 use Rattle.nix_values.specs.JsonEscapes.{is_plain, escape}
 
--- a byte that does not stand for itself is below 128
+-- a byte that needs an escape is below 128
 low : (b : ℕ) → is_plain b ≡ false → b < 128
 low b h = grind (arith, nat_tests)
 
--- the bytes that come first and stand for themselves end before a character, or with the text
+-- the plain bytes at the beginning end at a character boundary
 pub plain_boundary : (text : List ℕ) → IsCharBoundary text (prefix_len is_plain text)
 plain_boundary text =
     let n = prefix_len is_plain text in
@@ -21,7 +21,7 @@ plain_boundary text =
           subst (IsCharBoundary text) same (IsCharBoundary-end text)
     ]
 
--- the byte after them is no part of a longer character
+-- the next byte is not a part of a longer character
 pub behind_boundary : (text : List ℕ) → IsUtf8 text → prefix_len is_plain text < length text → IsCharBoundary text (prefix_len is_plain text + 1)
 behind_boundary text utf8 within =
     let n = prefix_len is_plain text in
@@ -32,7 +32,7 @@ itself : (b : ℕ) → is_plain b ≡ true → escape b ≡ b ∷ []
 unfolding escape
 itself b h = rw h refl
 
--- a byte, plain or not, in front of some bytes
+-- a run of plain bytes, whose first byte is plain or not
 plain_front : (b : ℕ) (bs : List ℕ) (e : Bool) → is_plain b ≡ e → flat_map escape (take (prefix_len is_plain bs) bs) ≡ take (prefix_len is_plain bs) bs
     → flat_map escape (take (prefix_len is_plain (b ∷ bs)) (b ∷ bs)) ≡ take (prefix_len is_plain (b ∷ bs)) (b ∷ bs)
 plain_front b bs true h rest = rw h (plain_more b bs (prefix_len is_plain bs) h rest)
@@ -45,12 +45,12 @@ plain_front b bs true h rest = rw h (plain_more b bs (prefix_len is_plain bs) h 
         ap (flat_map escape) front ∙ ap (λ l. l ++ flat_map escape (take n bs)) (itself b h) ∙ ap (λ l. b ∷ l) rest ∙ sym front
 plain_front b bs false h rest = rw h refl
 
--- the bytes that come first and stand for themselves
+-- the plain bytes at the beginning are written as they are
 plain_run : (bs : List ℕ) → flat_map escape (take (prefix_len is_plain bs) bs) ≡ take (prefix_len is_plain bs) bs
 plain_run [] = refl
 plain_run (b ∷ bs) = plain_front b bs (is_plain b) refl (plain_run bs)
 
--- they are written with the rest of the text still to come
+-- after they are written, the rest of the text remains
 pub run_written : (old new text run rest : List ℕ) (n : ℕ) → n ≡ prefix_len is_plain text → run ≡ take n text → rest ≡ drop n text
     → new ≡ old ++ run → new ++ flat_map escape rest ≡ old ++ flat_map escape text
 run_written old new text run rest n len is behind written =
@@ -60,7 +60,7 @@ run_written old new text run rest n len is behind written =
     ∙ ap (λ l. old ++ l) (ap (λ l. l ++ flat_map escape (drop n text)) plain
     ∙ sym (flat_map-append escape (take n text) (drop n text)) ∙ ap (flat_map escape) (take-append-drop n text)))
 
--- and so is the byte after them
+-- after the next byte is written, too
 pub byte_written : (old mid new text run rest : List ℕ) (n d : ℕ) → n ≡ prefix_len is_plain text → n < length text → run ≡ take n text
     → rest ≡ drop (n + 1) text → mid ≡ old ++ run → (is_plain (get_or text n d) ≡ false → new ≡ mid ++ escape (get_or text n d))
     → new ++ flat_map escape rest ≡ old ++ flat_map escape text

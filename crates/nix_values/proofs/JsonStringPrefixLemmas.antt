@@ -1,4 +1,4 @@
--- A string is the same before a blank as before what followed it.
+-- A string stays the same if what follows it is replaced by a blank.
 use Rattle.std.proofs.Common.{◌≡◌, ◌∙◌, ℕ, zero, suc, ◌+◌, ◌*◌, ◌<◌, ◌≤◌, List, [], ◌∷◌, ◌++◌, length, get_or, drop, ap, ap₂, sym, refl, arith, Option, Some, None}
 use Rattle.std.specs.Prelude.{◌==◌, ◌&&◌, nat_lt, option_map, option_and_then, if◌then◌else◌}
 use Rattle.std.specs.Char.{is_digit, digit_value, encode_utf8}
@@ -82,7 +82,7 @@ escape_kept bs cs x e same =
 
 -- ---- strings
 
--- what is found behind some bytes
+-- what is found after some bytes
 behind_parts : (bytes : List ℕ) (n : ℕ) (found : Option (List ℕ × ℕ)) (r : List ℕ × ℕ) → behind bytes n found ≡ Some r →
     (x : List ℕ × ℕ) × (found ≡ Some x) × (n + x.1 ≡ r.1)
 behind_parts bytes n None r e = absurd (none-some r e)

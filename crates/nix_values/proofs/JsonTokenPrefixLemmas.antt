@@ -1,4 +1,4 @@
--- A token is the same before a blank as before what followed it.
+-- A token stays the same if what follows it is replaced by a blank.
 use Rattle.std.proofs.Common.{◌≡◌, ◌∙◌, ℕ, suc, ◌-◌, ◌≤◌, Bool, true, false, List, [], ◌∷◌, length, take, ap, sym, refl, arith, Option, Some, None}
 use Rattle.std.specs.Prelude.{◌==◌, ◌||◌, ◌&&◌, nat_eq, codes, option_map, if◌then◌else◌}
 use Rattle.std.specs.List.{starts_with}
@@ -13,7 +13,7 @@ use Rattle.nix_values.specs.Json.{Token, string, scalar, word_at, string_at, sca
 use Rattle.nix_values.proofs.JsonPrefixLemmas.{if_some, if_kept, cut_at, number_same, number_fits}
 use Rattle.nix_values.proofs.JsonStringPrefixLemmas.{content_fits, content_kept}
 
--- ---- words
+-- ---- keywords
 
 word_same : (w text rest : List ℕ) (m : ℕ) → length w ≤ m → m ≤ length text → starts_with nat_eq (cut_at m text rest) w ≡ starts_with nat_eq text w
 word_same w text rest m h within =
@@ -27,7 +27,7 @@ false_at bytes = if starts_with nat_eq bytes (codes "false") then Some (scalar (
 abbrev true_at : List ℕ → Option (Token × ℕ)
 true_at bytes = if starts_with nat_eq bytes (codes "true") then Some (scalar (boolean true), 4) else false_at bytes
 
--- a word has a length
+-- the length of a keyword
 word_len : (t : Token) (n : ℕ) (r : Token × ℕ) → ◌≡◌ {A = Option (Token × ℕ)} (Some (t, n)) (Some r) → n ≡ r.1
 word_len t n r e = ap (λ p. p.1) (same_Some {A = Token × ℕ} (t, n) r e)
 
@@ -69,7 +69,7 @@ module _ (m : ℕ) (text rest : List ℕ) (r : Token × ℕ) (within : m ≤ len
       ∙ if_kept (starts_with nat_eq text (codes "null")) (Some (scalar null, 4)) (Some (scalar null, 4)) (true_at text) (true_at (cut_at m text rest)) r e
       (λ found. found) true_kept
 
--- a word is in its text
+-- if both of two tests pass, the second does
 and_right : (a b : Bool) → a && b ≡ true → b ≡ true
 and_right true b e = e
 and_right false b e = absurd (cc)

@@ -1,4 +1,4 @@
--- The links between values, one more value at a time.
+-- The links between values, which are added one by one.
 use Rattle.std.proofs.Common.{◌≡◌, ◌∙◌, ℕ, suc, ◌<◌, ◌≤◌, eqb, List, length, get_or, set, replicate, Some, None, ⊎_elim, sym, ap, subst, eq-eqb, eqb-true, length-set, get_or-set_same, get_or-set_other, arith}
 use Rattle.std.proofs.lemmas.Bool.{cases_Bool}
 use Rattle.std.proofs.lemmas.List.{get_or-replicate, length-replicate}
@@ -6,7 +6,7 @@ use Rattle.nix_values.specs.declared.links.Links.{Links}
 use Rattle.nix_values.specs.Groups.{first_from, AreLinkedFrom}
 use Rattle.nix_values.proofs.GroupLemmas.{ComeLater, first_here, first_other, first_end}
 
--- no value is linked yet
+-- no value has been linked
 pub linked_none : (groups : List ℕ) (links : Links) → links.first.items ≡ replicate (suc (length groups)) None →
     links.next.items ≡ replicate (length groups) None → AreLinkedFrom (length groups) groups links
 linked_none groups links first next = record {

@@ -1,4 +1,4 @@
--- Attributes by their names in order, after one is inserted.
+-- Attributes ordered by name, after one is inserted.
 use Rattle.std.proofs.Common.{◌≡◌, ◌∙◌, ℕ, ◌==◌, ◌&&◌, Bool, true, false, cond, List, Option, Some, Result, Ok, Err, OnOk, OnErr, String, Global, string_bytes, ⊎_elim, sym, refl, ap, ap₂, arith}
 use Rattle.std.specs.Prelude.{option_and_then}
 use Rattle.std.specs.Str.{bytes_eq}
@@ -22,7 +22,7 @@ pub on_ok_then : {T E : Type 0} (r : Result T E) (P Q : Type 0) → (P → Q) �
 on_ok_then (Ok x) P Q f p = f p
 on_ok_then (Err e) P Q f p = tt
 
--- the attributes of a name
+-- the attributes with a name
 abbrev sets_in : OrderedAttributes → List ℕ → Option (BTreeMap ℕ ℕ)
 sets_in ordered name = get_by_text ordered.names name
 
@@ -39,7 +39,7 @@ named_other : (old new : OrderedAttributes) (name n : List ℕ) (sets : BTreeMap
 named_other old new name n sets s named e =
     ap (λ o. option_and_then (λ (m : BTreeMap ℕ ℕ). get nat_cmp m s) o) (named n ∙ cond-false (bytes_eq name n) (Some sets) (sets_in old n) e)
 
--- the attributes of a name have one more
+-- a name gets one more attribute
 pub with_sets : (old new : OrderedAttributes) (set : ℕ) (name : List ℕ) (value : ℕ) (sets : BTreeMap ℕ ℕ) → IsNamed old name sets new →
     ((s : ℕ) → get nat_cmp sets s ≡ cond (set == s) (Some value) (crowded_in old s name)) → IsWithCrowded old set name value new
 with_sets old new set name value sets named more = λ s n.
@@ -58,7 +58,7 @@ with_sets old new set name value sets named more = λ s n.
     and_true true = refl
     and_true false = refl
 
--- the attributes of a name are as they were
+-- the attributes with a name are unchanged
 pub same_sets : (old new : OrderedAttributes) (name : List ℕ) (sets : BTreeMap ℕ ℕ) → IsNamed old name sets new →
     ((s : ℕ) → get nat_cmp sets s ≡ crowded_in old s name) → IsSameCrowded old new
 same_sets old new name sets named same = λ s n.

@@ -1,4 +1,4 @@
--- What is still to be visited where each value is followed by those inside it.
+-- Which values remain to be visited when each value is followed by those inside it.
 use Rattle.std.proofs.Common.{◌≡◌, ◌∙◌, ℕ, suc, ◌<◌, List, [], ◌∷◌, ◌++◌, length, get_or, reverse, flat_map, option_to_list, Option, Some, None, sym, refl, ap, ap₂, subst, append-nil, append_assoc, arith}
 use Rattle.std.specs.List.{AllByRecursion}
 use Rattle.std.proofs.lemmas.List.{reverse-append}
@@ -7,7 +7,7 @@ use Rattle.nix_values.specs.declared.links.Links.{Links}
 use Rattle.nix_values.specs.Groups.{order_of, first_from, AreLinkedFrom}
 use Rattle.nix_values.proofs.GroupLemmas.{ComeLater, from, from_first, from_step, order_first, is_first}
 
--- the numbers still to be visited, if these are on the stack
+-- the numbers that remain to be visited, given the stack
 abbrev pub pending : List ℕ → List ℕ → List ℕ
 pending groups stack = flat_map (from groups) (reverse stack)
 
@@ -24,7 +24,7 @@ pending_more groups stack o =
     ∙ flat_map-append (from groups) (reverse (option_to_list o)) (reverse stack)
     ∙ ap (λ ns. ns ++ pending groups stack) (first_pending groups o)
 
--- the value on top is visited; those inside it are pushed last
+-- visiting the value on top of the stack; the values inside it are pushed last
 pub pending_step : (groups stack : List ℕ) → ComeLater groups → (n : ℕ) → n < length groups →
     pending groups (stack ++ n ∷ [])
     ≡ n ∷ pending groups ((stack ++ option_to_list (first_from (suc n) groups (get_or groups n 0))) ++ option_to_list (first_from 0 groups (suc n)))
@@ -37,7 +37,7 @@ pending_step groups stack late n within =
     ∙ ap (λ ns. inner ++ ns) (sym (pending_more groups stack (first_from (suc n) groups (get_or groups n 0)))))
     ∙ ap (λ ns. n ∷ ns) (sym (pending_more groups (stack ++ option_to_list (first_from (suc n) groups (get_or groups n 0))) (first_from 0 groups (suc n))))
 
--- ---- the stack holds numbers of values
+-- ---- the stack contains numbers of values
 
 abbrev pub AreWithin : List ℕ → List ℕ → Type 0
 AreWithin groups stack = AllByRecursion (λ n. n < length groups) stack
@@ -59,7 +59,7 @@ within_rest groups (x ∷ xs) n w = let next = within_rest groups xs n w.1 in ((
 
 -- ---- a visit
 
--- a value on top is visited
+-- the value on top of the stack is visited
 pub record IsVisited (groups stack : List ℕ) (n : ℕ) (later : List ℕ) : Type 0 where
   pub step : pending groups stack ≡ n ∷ pending groups later
   pub within : AreWithin groups later

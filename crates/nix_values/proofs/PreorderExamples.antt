@@ -1,4 +1,4 @@
--- Rows of values with their order.
+-- Values, and their order.
 use Rattle.std.proofs.Common.{◌≡◌, ℕ, List, [], ◌∷◌, Some, None, refl}
 use Rattle.std.specs.Prelude.{pos}
 use Rattle.nix_values.specs.Contents.{Plain, integer, set, list, Entry}
@@ -21,7 +21,7 @@ nothing : preorder [] ≡ []
 unfolding descendants
 nothing = refl
 
--- { a.b = 1; c = 2; a.d = 3; }: `d` was added after `c`, and is in `a`
+-- { a.b = 1; c = 2; a.d = 3; }: `d` was added after `c`, but is inside `a`
 merged : preorder
     (outermost set ∷ inside 0 (97 ∷ []) set ∷ inside 1 (98 ∷ []) (number 1) ∷ inside 0 (99 ∷ []) (number 2) ∷ inside 1 (100 ∷ []) (number 3) ∷ [])
     ≡ at 0 [] set ∷ at 1 (97 ∷ []) set ∷ at 2 (98 ∷ []) (number 1) ∷ at 2 (100 ∷ []) (number 3) ∷ at 1 (99 ∷ []) (number 2) ∷ []

@@ -1,4 +1,4 @@
--- Names that a set has twice, among values of which more are added.
+-- Names that a set has twice, while values are added.
 use Rattle.std.proofs.Common.{◌≡◌, ◌∙◌, ℕ, zero, suc, ◌+◌, ◌<◌, ◌≤◌, cond, List, [], ◌∷◌, ◌++◌, length, Option, Some, None, ⊎_elim, sym, refl, ap, ap₂, arith, append_assoc}
 use Rattle.std.specs.Prelude.{slice_get, option_and_then, if◌then◌else◌}
 use Rattle.std.proofs.lemmas.Bool.{cases_Bool, cond-true, cond-false, le-ltb, lt-ltb}
@@ -8,7 +8,7 @@ use Rattle.nix_values.specs.Contents.{Entry}
 use Rattle.nix_values.specs.RepeatedNames.{is_outside, last_outside, is_set_entry, entry_key, entry_keys, HasRepeatedName}
 use Rattle.nix_values.proofs.BuiltLemmas.{get_last}
 
--- ---- values that others follow
+-- ---- values that are followed by others
 
 pub get_front : (xs ys : List Entry) (i : ℕ) → i < length xs → slice_get (xs ++ ys) i ≡ slice_get xs i
 get_front [] ys i less = absurd (omega (arith, less))
@@ -47,7 +47,7 @@ key_front_at xs ys i entry inside =
         let before : p < i = outside_below xs i entry.depth p is in
         ap (λ e. cond {A = Option (ℕ × List ℕ)} (is_set_entry e) (Some (p, entry.name)) None) (get_front xs ys p (omega arith))
 
--- a value is the attribute that it was
+-- adding values does not change which attributes the earlier ones are
 pub key_front : (xs ys : List Entry) (i : ℕ) → i < length xs → entry_keys (xs ++ ys) i ≡ entry_keys xs i
 key_front xs ys i less =
     ap (option_and_then (entry_key (xs ++ ys) i)) (get_front xs ys i less) ∙ by (slice_get xs i)
@@ -56,7 +56,7 @@ key_front xs ys i less =
     by None = refl
     by (Some entry) = key_front_at xs ys i entry (omega (arith, less))
 
--- which attribute a value is that is added
+-- which attribute the added value is
 pub key_added : (xs : List Entry) (entry : Entry) → entry_keys (xs ++ entry ∷ []) (length xs) ≡ entry_key xs (length xs) entry
 key_added xs entry =
     ap (option_and_then (entry_key (xs ++ entry ∷ []) (length xs))) (get_last xs entry)
@@ -69,7 +69,7 @@ key_next xs ys entry =
     ∙ key_front (xs ++ entry ∷ []) ys (length xs) (omega (arith, len))
     ∙ key_added xs entry
 
--- a value is added that another one is already
+-- adding a value that is the same attribute as an earlier one
 pub repeated : (xs ys : List Entry) (entry : Entry) (i s : ℕ) (n : List ℕ) → i < length xs → entry_keys xs i ≡ Some (s, n) →
     entry_key xs (length xs) entry ≡ Some (s, n) → HasRepeatedName (xs ++ entry ∷ ys)
 repeated xs ys entry i s n less one other = record {
@@ -82,7 +82,7 @@ repeated xs ys entry i s n less one other = record {
   other = key_next xs ys entry ∙ other;
 }
 
--- the value that is outside of a value that is added
+-- the last value with less depth than an added value
 pub outside_same : (xs : List Entry) (entry : Entry) (depth : ℕ) → depth ≤ entry.depth →
     last_outside (xs ++ entry ∷ []) (length xs + 1) depth ≡ last_outside xs (length xs) depth
 outside_same xs entry depth deep =

@@ -1,8 +1,8 @@
--- Lists that are the same one by one.
+-- Lists that are equal element by element.
 use Rattle.std.proofs.Common.{◌≡◌, ◌∙◌, ℕ, ◌+◌, ◌<◌, List, [], ◌∷◌, ◌++◌, length, get_or, take, map, ap, sym}
 use Rattle.std.proofs.lemmas.List.{map_more}
 
--- one element more is the same
+-- if the first n elements are equal, and so are the next ones, then so are the first n + 1
 pub same_more : {X Y : Type 0} (f : X → Y) (xs ys : List X) (n : ℕ) (x y : X) → n < length xs → n < length ys →
     x ≡ get_or xs n x → y ≡ get_or ys n y → map f (take n xs) ≡ map f (take n ys) → f x ≡ f y → map f (take (n + 1) xs) ≡ map f (take (n + 1) ys)
 same_more f xs ys n x y there other at other_at so_far same =

@@ -33,7 +33,7 @@ pub turn_end : (at h : ℕ) (s : List Slot) → spot_from 0 at h s ≡ Full
 unfolding spot_from
 turn_end at h s = refl
 
--- a case of one step
+-- one step of a search, by cases
 turn : {P : Type 0} (at h : ℕ) (s : List Slot) → (is_free (slot_at s at) ≡ true → P) →
     (is_free (slot_at s at) ≡ false → ((slot_at s at).hash == h) ≡ true → P) →
     (is_free (slot_at s at) ≡ false → ((slot_at s at).hash == h) ≡ false → P) → P
@@ -57,7 +57,7 @@ in_window (suc n) at h s i e =
     (λ f g. let more : (at + 1 ≤ i) × (i < at + 1 + n) = in_window n (at + 1) h s i (sym (ap end_of (turn_other n at h s f g)) ∙ e) in
     (omega arith, omega arith))
 
--- what is in the slot of a hash
+-- a slot contains a number with this hash
 abbrev pub Holds : List Slot → ℕ → ℕ → ℕ → Type 0
 Holds s h i m = (is_free (slot_at s i) ≡ false) × ((slot_at s i).hash ≡ h) × ((slot_at s i).number ≡ m)
 
@@ -92,7 +92,7 @@ same_slot s p i v other = get_or-set_other s p i v free_slot other
 pub new_slot : (s : List Slot) (p : ℕ) (v : Slot) → p < length s → slot_at (set s p v) p ≡ v
 new_slot s p v inside = get_or-set_same s p v free_slot inside
 
--- the search ends there with the new number
+-- the search ends there, at the new number
 put_here : (n h : ℕ) (s : List Slot) (at p : ℕ) (v : Slot) → at ≡ p → p < length s → is_free v ≡ false → v.hash ≡ h →
     spot_from (suc n) at h (set s p v) ≡ Taken p v.number
 put_here n h s at p v here inside some hash =
@@ -113,7 +113,7 @@ put_same (suc n) at h s p v e inside some hash =
     let same : slot_at (set s p v) at ≡ slot_at s at = same_slot s p at v (λ is. absurd (omega arith)) in
     turn_other n at h (set s p v) (ap is_free same ∙ f) (ap (λ x. x.hash == h) same ∙ g) ∙ put_same n (at + 1) h s p v rest inside some hash)
 
--- another search that ends at no free slot ends as before, if the slot was free
+-- if the slot was free, a search that ended at no free slot ends as before
 put_free : (n at h : ℕ) (s : List Slot) (p : ℕ) (v : Slot) → is_free (slot_at s p) ≡ true → ((i : ℕ) → spot_from n at h s ≡ Free i → ⊥) →
     spot_from n at h (set s p v) ≡ spot_from n at h s
 put_free zero at h s p v was none = turn_end at h (set s p v) ∙ sym (turn_end at h s)
@@ -132,7 +132,7 @@ put_free (suc n) at h s p v was none =
     ∙ put_free n (at + 1) h s p v was (λ i e. none i (turn_other n at h s f g ∙ e))
     ∙ sym (turn_other n at h s f g))
 
--- another search ends as before, if the slot had the same hash
+-- if the slot had the same hash, a search for another hash ends as before
 put_again : (n at g h : ℕ) (s : List Slot) (p : ℕ) (v : Slot) → p < length s → is_free (slot_at s p) ≡ false → (slot_at s p).hash ≡ h →
     is_free v ≡ false → v.hash ≡ h → (h ≡ g → ⊥) → spot_from n at g (set s p v) ≡ spot_from n at g s
 put_again zero at g h s p v inside was had some hash other = turn_end at g (set s p v) ∙ sym (turn_end at g s)
@@ -226,7 +226,7 @@ put_again_in s first g h p v inside was had some hash other =
 pub end_inside : (table : Slots) (h p : ℕ) → end_of (spot_of table h) ≡ Some p → p < length table.slots.items
 end_inside table h p e = ends_inside table.slots.items (first_of table h) h p e
 
--- a search in the new table
+-- where a search ends in the new table
 pub spot_put : (old new : Slots) (at hash number g : ℕ) → IsPut old at hash number new →
     spot_of new g ≡ spot_in (set old.slots.items at (record { hash = hash; number = number })) (first_of old g) g
 spot_put old new at hash number g put = ap₂ (λ (s : List Slot) (mask : ℕ). spot_in s (bit_and g mask) g) put.slots put.mask

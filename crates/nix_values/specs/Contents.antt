@@ -1,4 +1,4 @@
--- What data are: their values in order, each with the number of lists and sets around it and its name. A text is its bytes.
+-- Data as a list: the values in order, each with its depth (the number of lists and sets around it) and its name. A text is its bytes.
 use Rattle.std.specs.Prelude.{ℕ, ℤ, Bool, true, false, List, map, string_bytes}
 use Rattle.nix_values.specs.declared.data.Value.{Value}
 use Rattle.nix_values.specs.declared.data.Value.TheVariants as value
@@ -15,13 +15,13 @@ pub data Plain : Type 0 where
   list : Plain
   set : Plain
 
--- whether a value holds values
+-- whether a value contains others
 abbrev pub has_parts : Plain → Bool
 has_parts list = true
 has_parts set = true
 has_parts _ = false
 
--- a value with its place
+-- a value with its depth and name
 pub record Entry : Type 0 where
   pub depth : ℕ
   pub name : List ℕ

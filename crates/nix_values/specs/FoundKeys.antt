@@ -1,13 +1,13 @@
--- Which attributes the values of a JSON text are.
+-- The attributes among the values of a JSON text.
 use Rattle.std.specs.Prelude.{ℕ, Option, slice_get, option_and_then, option_map, string_bytes}
 use Rattle.nix_values.specs.declared.json_found.Found.{Found}
 use Rattle.nix_values.specs.Keys.{Keys}
 
--- where a value, or its name, was found
+-- the offset at which a value, or its name, was found
 abbrev pub offset_of : Found → ℕ → Option ℕ
 offset_of found number = option_map (λ location. location.offset) (slice_get found.locations.items number)
 
--- a value is the attribute of the set of its place
+-- the set and the name of which a value is the attribute
 abbrev pub found_keys : Found → Keys
 found_keys found number =
     option_and_then

@@ -9,7 +9,7 @@ use Rattle.nix_values.specs.declared.json_reader.TheConstants.{MOST_DEPTH}
 
 -- ---- tokens
 
--- a bracket is `[` or `]`, or `{` or `}` of a set
+-- a bracket is `[` or `]`, or for a set `{` or `}`
 pub data Token : Type 0 where
   opening : Bool → Token
   closing : Bool → Token
@@ -21,7 +21,7 @@ pub data Token : Type 0 where
 abbrev pub is_space : ℕ → Bool
 is_space b = b == 32 || (b == 9 || (b == 10 || b == 13))
 
--- the word that a text begins with, and its length
+-- the keyword with which a text begins, and its length
 abbrev pub word_at : List ℕ → Option (Token × ℕ)
 word_at bytes =
     if starts_with nat_eq bytes (codes "null") then Some (scalar null, 4)
@@ -33,7 +33,7 @@ word_at bytes =
 abbrev pub string_at : List ℕ → Option (Token × ℕ)
 string_at bytes = option_map (λ r. (string r.0, suc r.1)) (content 0 bytes)
 
--- the number that a text begins with, and its length
+-- the number with which a text begins, and its length
 abbrev pub scalar_at : List ℕ → Option (Token × ℕ)
 scalar_at bytes = option_map (λ r. (scalar r.0, r.1)) (number_at bytes)
 
@@ -50,7 +50,7 @@ token_at b bs =
     else (if b == 45 || is_ascii_digit b then scalar_at (b ∷ bs)
     else word_at (b ∷ bs))))))))
 
--- the tokens of a text, after so many bytes that are passed over
+-- the tokens of a text, after a number of bytes that are skipped
 unfoldable pub tokens_behind : ℕ → List ℕ → Option (List Token)
 tokens_behind passed [] = Some []
 tokens_behind (suc passed) (b ∷ bs) = tokens_behind passed bs
@@ -60,8 +60,8 @@ tokens_behind zero (b ∷ bs) =
 
 -- ---- the grammar
 
--- what may come next: a value with a name; what follows `[`, an item, `{` or a member; a member; what follows its name. The number counts
--- the lists and sets around it.
+-- what may come next: a value with a name; what follows `[`; an item; what follows `{`; a member; or what follows a member's name. The number is that of the
+-- lists and sets around it.
 pub data Part : Type 0 where
   value : ℕ → List ℕ → Part
   first_item : ℕ → Part
@@ -71,11 +71,11 @@ pub data Part : Type 0 where
   member : ℕ → Part
   named : ℕ → List ℕ → Part
 
--- the parts that a token is followed by, and the values that it adds
+-- the parts that follow a token, and the values that it adds
 abbrev pub Taken : Type 0
 Taken = Option (List Part × List Entry)
 
--- a value with its place
+-- a value with its depth and name
 abbrev pub entry : ℕ → List ℕ → Plain → List Entry
 entry depth name plain = record { depth = depth; name = name; plain = plain } ∷ []
 
@@ -87,7 +87,7 @@ value_from depth name (opening false) = if nat_lt depth MOST_DEPTH then Some (fi
 value_from depth name (opening true) = if nat_lt depth MOST_DEPTH then Some (first_member (depth + 1) ∷ [], entry depth name set) else None
 value_from depth name _ = None
 
--- a part after what a token is followed by
+-- the parts that follow a token, and then another part
 abbrev pub then_part : Part → Taken → Taken
 then_part part taken = option_map (λ r. (r.0 ++ part ∷ [], r.1)) taken
 
@@ -113,26 +113,26 @@ part_from (member depth) token = member_from depth token
 part_from (named depth name) colon = Some (value depth name ∷ [], [])
 part_from (named depth name) _ = None
 
--- parts one after the other that begin with a token
+-- several parts, one after another, the first of which begins with a token
 abbrev pub parts_from : List Part → Token → Taken
 parts_from [] token = None
 parts_from (part ∷ parts) token = option_map (λ r. (r.0 ++ parts, r.1)) (part_from part token)
 
--- no part is left
+-- no parts remain
 abbrev pub none_remaining : List Part → Option (List Entry)
 none_remaining [] = Some []
 none_remaining (part ∷ parts) = None
 
--- values in front of those that follow
+-- values followed by those that come later
 abbrev pub in_front : List Entry → Option (List Entry) → Option (List Entry)
 in_front entries others = option_map (λ more. entries ++ more) others
 
--- the values that tokens mean, if they are these parts, one after the other
+-- the values that tokens mean, if they form these parts, one after another
 unfoldable pub meaning : List Part → List Token → Option (List Entry)
 meaning parts [] = none_remaining parts
 meaning parts (token ∷ tokens) = option_and_then (λ r. in_front r.1 (meaning r.0 tokens)) (parts_from parts token)
 
--- the values that a text means, if it is these parts, one after the other
+-- the values that a text means, if it forms these parts, one after another
 abbrev pub values_of : List Part → List ℕ → Option (List Entry)
 values_of parts bytes = option_and_then (meaning parts) (tokens_behind 0 bytes)
 
@@ -140,6 +140,6 @@ values_of parts bytes = option_and_then (meaning parts) (tokens_behind 0 bytes)
 abbrev pub json_values : List ℕ → Option (List Entry)
 json_values bytes = values_of (value 0 [] ∷ []) bytes
 
--- a text is JSON of these values
+-- a text is JSON and means these values
 abbrev pub IsJson : List ℕ → List Entry → Type 0
 IsJson bytes entries = json_values bytes ≡ Some entries

@@ -2,27 +2,27 @@
 use Rattle.std.specs.Prelude.{◌≡◌, ◌<◌, ℕ, zero, suc, ◌+◌, ◌-◌, ◌*◌, ◌==◌, nat_lt, nat_le, Bool, true, ◌&&◌, List, [], ◌∷◌, ◌++◌, drop, slice_index, Option, Some, None, option_map, option_and_then, if◌then◌else◌}
 use Rattle.std.specs.Char.{digit_value, is_digit, encode_utf8}
 
--- the value of the hexadecimal digit at a place
+-- the value of the hexadecimal digit at an index
 abbrev pub hex_at : List ℕ → ℕ → ℕ
 hex_at text i = digit_value (slice_index text i)
 
--- a byte of a text is a hexadecimal digit of this value
+-- the byte at an index is a hexadecimal digit with this value
 abbrev pub IsHexAt : List ℕ → ℕ → ℕ → Type 0
 IsHexAt text i value = (is_digit (slice_index text i) 16 ≡ true) × (value ≡ hex_at text i) × (value < 16)
 
--- whether four hexadecimal digits come first
+-- whether a text begins with four hexadecimal digits
 abbrev pub begins_hex : List ℕ → Bool
 begins_hex text =
     is_digit (slice_index text 0) 16
     && (is_digit (slice_index text 1) 16 && (is_digit (slice_index text 2) 16 && is_digit (slice_index text 3) 16))
 
--- the code unit that four hexadecimal digits are
+-- the code unit that four hexadecimal digits write
 abbrev pub code_unit : List ℕ → Option ℕ
 code_unit text =
     if begins_hex text then Some (hex_at text 0 * 4096 + (hex_at text 1 * 256 + (hex_at text 2 * 16 + hex_at text 3)))
     else None
 
--- whether a code unit is the first half of a surrogate pair, or the second
+-- whether a code unit is the first half of a surrogate pair; whether it is the second half
 abbrev pub is_high : ℕ → Bool
 is_high unit = nat_le 0xD800 unit && nat_lt unit 0xDC00
 
@@ -33,16 +33,16 @@ is_low unit = nat_le 0xDC00 unit && nat_lt unit 0xE000
 abbrev pub pair_of : ℕ → ℕ → ℕ
 pair_of high low = (high - 0xD800) * 1024 + (low - 0xDC00) + 0x10000
 
--- the second half of a pair, escaped
+-- the second half of a pair, written as an escape
 abbrev pub low_half : List ℕ → Option ℕ
 low_half text = if slice_index text 0 == 92 && slice_index text 1 == 117 then code_unit (drop 2 text) else None
 
--- the character of a first half, with what follows it, and the length of both escapes after the backslash
+-- the character of a pair, given its first half and the second half that follows, and the length of both escapes after the backslash
 abbrev pub paired : ℕ → Option ℕ → Option (ℕ × ℕ)
 paired high None = None
 paired high (Some low) = if is_low low then Some (pair_of high low, 11) else None
 
--- the character of a code unit, with what follows it, and the length of the escape after the backslash. A string of Nix cannot hold the character 0.
+-- the character of a code unit, given what follows it, and the length of the escape after the backslash. A string in Nix cannot contain the character 0.
 abbrev pub escaped_unit : Option ℕ → List ℕ → Option (ℕ × ℕ)
 escaped_unit None rest = None
 escaped_unit (Some unit) rest =
@@ -64,21 +64,21 @@ short_escape x =
     else (if x == 116 then Some 9
     else None)))))))
 
--- the character of the four digits after `\u`, and the length of the escape after the backslash
+-- the character with the four digits after `\u`, and the length of the escape after the backslash
 abbrev pub numbered : List ℕ → Option (ℕ × ℕ)
 numbered text = escaped_unit (code_unit text) (drop 4 text)
 
--- the character that is escaped after a backslash, and the length of the escape there
+-- the character of the escape after a backslash, and the length of the escape there
 unfoldable pub escape_at : List ℕ → Option (ℕ × ℕ)
 escape_at rest =
     if slice_index rest 0 == 117 then numbered (drop 1 rest)
     else option_map (λ c. (c, 1)) (short_escape (slice_index rest 0))
 
--- what is found after so many bytes, whose value is a text
+-- what is found after a number of bytes, preceded by the value of these bytes
 abbrev pub behind : List ℕ → ℕ → Option (List ℕ × ℕ) → Option (List ℕ × ℕ)
 behind bytes n found = option_map (λ r. (bytes ++ r.0, n + r.1)) found
 
--- the value of the bytes up to the closing quote, and their number with the quote; so many bytes were read before
+-- the value of the bytes up to the closing quote, and their number including the quote; the first `passed` bytes are counted, but add nothing to the value
 unfoldable pub content : ℕ → List ℕ → Option (List ℕ × ℕ)
 content passed [] = None
 content (suc passed) (b ∷ bs) = behind [] 1 (content passed bs)

@@ -3,15 +3,15 @@ use Rattle.std.specs.Prelude.{ℕ, ◌==◌, nat_lt, ◌/◌, ◌%◌, Bool, not
 use Rattle.std.specs.Char.{digit_char}
 use Rattle.std.specs.List.{flat_map}
 
--- whether a byte stands for itself: it is no control character below 32, no quote and no backslash
+-- whether a byte needs no escape: it is not a control character below 32, a quote or a backslash
 abbrev pub is_plain : ℕ → Bool
 is_plain b = not (nat_lt b 32) && (not (b == 34) && not (b == 92))
 
--- a control character's number in four digits
+-- the number of a control character in four digits
 abbrev pub numbered : ℕ → List ℕ
 numbered b = codes "\\u00" ++ digit_char (b / 16) ∷ digit_char (b % 16) ∷ []
 
--- what stands for a control character below 32: a letter after a backslash, or else its number
+-- the escape of a control character below 32, without the backslash: a letter, or else its number
 abbrev pub control : ℕ → List ℕ
 control b =
     if b == 8 then codes "\\b"
@@ -21,13 +21,13 @@ control b =
     else (if b == 13 then codes "\\r"
     else numbered b))))
 
--- what stands for a byte: itself, what stands for a control character, a quote or a backslash after a backslash
+-- a byte as it is written in a string: a control character, a quote and a backslash are escaped
 unfoldable pub escape : ℕ → List ℕ
 escape b =
     if is_plain b then b ∷ []
     else (if nat_lt b 32 then control b
     else 92 ∷ b ∷ [])
 
--- the text between quotes, with escapes
+-- a text between quotes, with escapes
 abbrev pub json_string : List ℕ → List ℕ
 json_string text = codes "\"" ++ (flat_map escape text ++ codes "\"")

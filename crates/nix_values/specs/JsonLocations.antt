@@ -1,4 +1,4 @@
--- Where the reader of JSON is, and which attributes its values are.
+-- The position of the reader of JSON, and which attributes its values are.
 use Rattle.std.specs.Prelude.{◌≡◌, ℕ, ◌+◌, ◌-◌, List, length, map, slice_get, Option, Some, None, option_map, if◌then◌else◌}
 use Rattle.nix_values.specs.declared.json_found.Found.{Found}
 use Rattle.nix_values.specs.declared.json_reader.Frame.{Frame}
@@ -15,16 +15,16 @@ entries_of found = map entry_of found.items.items
 abbrev pub last_frame : List Frame → Option Frame
 last_frame frames = slice_get frames (length frames - 1)
 
--- the set that a value is added to
+-- the set to which a value is added
 abbrev pub set_of : Option Frame → Option ℕ
 set_of None = None
 set_of (Some frame) = if frame.is_set then Some frame.node else None
 
--- the attribute of a set, if there is one
+-- the attribute with a name in a set, if there is a set
 abbrev pub in_set : Option ℕ → List ℕ → Option (ℕ × List ℕ)
 in_set set name = option_map (λ s. (s, name)) set
 
--- the attributes of the values are found, and the opening lists and sets are the last values that are outside of those that come next
+-- the attributes of the values are found, and the open lists and sets are the last values outside those that come next
 pub record IsPlaced (found : Found) (attributes : Attributes) (frames : List Frame) : Type 0 where
   pub sound : IsConsistent (found_keys found) attributes
   pub count : length found.locations.items ≡ length found.items.items

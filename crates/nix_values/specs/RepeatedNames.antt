@@ -4,12 +4,12 @@ use Rattle.nix_values.specs.Contents.{Entry}
 use Rattle.nix_values.specs.Built.{is_set_plain}
 use Rattle.nix_values.specs.Keys.{Keys}
 
--- whether a value is in fewer lists and sets than so many
+-- whether there is a value, and its depth is less than the given one
 abbrev pub is_outside : Option Entry → ℕ → Bool
 is_outside None depth = false
 is_outside (Some entry) depth = nat_lt entry.depth depth
 
--- the last of so many values that is outside of values in so many lists and sets
+-- the last of the first values, as many as given, whose depth is less than the given one
 abbrev pub last_outside : List Entry → ℕ → ℕ → Option ℕ
 last_outside entries zero depth = None
 last_outside entries (suc number) depth = if is_outside (slice_get entries number) depth then Some number else last_outside entries number depth
@@ -18,7 +18,7 @@ abbrev pub is_set_entry : Option Entry → Bool
 is_set_entry None = false
 is_set_entry (Some entry) = is_set_plain entry.plain
 
--- a value is the attribute of the set that it is inside: the last value before it that is in fewer lists and sets
+-- a value is an attribute if its parent, the last value before it with less depth, is a set
 abbrev pub entry_key : List Entry → ℕ → Entry → Option (ℕ × List ℕ)
 entry_key entries number entry =
     option_and_then (λ parent. if is_set_entry (slice_get entries parent) then Some (parent, entry.name) else None) (last_outside entries number entry.depth)

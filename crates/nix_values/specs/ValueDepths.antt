@@ -7,12 +7,12 @@ use Rattle.nix_values.specs.Contents.{Entry, plain_of}
 use Rattle.nix_values.specs.Built.{built_of}
 use Rattle.nix_values.specs.Preorder.{parent_of}
 
--- the depth of what is inside a value
+-- the depth of the values inside a value
 abbrev pub depth_inside : Option Node → ℕ
 depth_inside None = 0
 depth_inside (Some node) = suc node.depth
 
--- the depth of the values with a parent
+-- the depth of the values with a given parent
 abbrev pub depth_under : List Node → Option ℕ → ℕ
 depth_under nodes None = 0
 depth_under nodes (Some parent) = depth_inside (slice_get nodes parent)
@@ -25,7 +25,7 @@ pub record HasDepth (nodes : List Node) (number : ℕ) (node : Node) : Type 0 wh
 abbrev pub HaveDepths : List Node → Type 0
 HaveDepths nodes = (number : ℕ) (node : Node) → slice_get nodes number ≡ Some node → HasDepth nodes number node
 
--- a node with its place
+-- a node with its depth and name
 abbrev pub entry_in : Node → Entry
 entry_in node = record { depth = node.depth; name = string_bytes node.name; plain = plain_of node.value }
 

@@ -1,4 +1,4 @@
-//! The attributes of sets by their names. Each is looked up by its hash; names that were chosen to share one are looked up in their order.
+//! The attributes of sets by name. Each is found by its hash; if too many names share a hash, the others are found in the order of their names.
 
 ghost use Rattle.std.specs.Prelude.{◌≡◌, ◌≢◌, ℕ, List, Option, Some, option_map, IsTrue, false, OnOk, OnErr};
 ghost use Rattle.nix_values.specs.Keys.{Keys, is_key};
@@ -11,21 +11,21 @@ use std::collections::BTreeMap;
 
 /// Values with numbers, some of which are attributes.
 pub trait Values {
-    // Which attribute each value is.
+    // For each value, the set and the name of the attribute that it is, if it is one.
     ghost keys: { Self → Keys };
 
-    /// Returns the set that a value is an attribute of, and its name.
+    /// Returns the set whose attribute a value is, and its name.
     fn attribute(&self, number: usize) -> Option<(usize, &str)>
         ensures { option_map (λ p. (p.0, p.1.now)) result ≡ keys self.now number };
 }
 
-// Where an attribute is found.
+// Where a search for an attribute ends.
 enum Probe {
-    // In this slot, as this number.
+    // At this slot, which contains this number.
     Taken(usize, usize),
-    // Nowhere, and this slot of its hash is free.
+    // At this slot, which is free: there is no such attribute.
     Free(usize),
-    // Among those that found no slot, if anywhere.
+    // At no slot: the attribute is among the crowded ones, if anywhere.
     Crowded,
 }
 
@@ -33,11 +33,11 @@ enum Probe {
 #[derive(Drop)]
 pub struct Attributes {
     slots: Slots,
-    // Those whose slots were all taken, or whose hash another one had.
+    // The crowded ones: attributes whose slots were all taken, or whose hash another one had.
     crowded: OrderedAttributes,
 }
 
-// Returns whether what a value is an attribute of is a set, and a name its name.
+// Returns whether a value is the attribute with a name in a set.
 fn is_attribute(found: Option<(usize, &str)>, set: usize, name: &str) -> bool
     ensures { result ≡ is_key (option_map (λ p. (p.0, p.1.now)) found.entry) set name.now }
 {
@@ -61,7 +61,7 @@ impl Attributes {
         }
     }
 
-    // Returns where the attribute of a set is that has a name with this hash. At most one name is compared.
+    // Returns where the search for the attribute with a name in a set ends, given the hash. At most one name is compared.
     fn probe<V: Values>(&self, values: &V, hash: u64, set: usize, name: &str) -> Probe
         requires { hash ≡ attribute_hash set name.now }
         ensures { result ≡ probe_in self.now (V.keys values.now) set name.now }
@@ -79,7 +79,7 @@ impl Attributes {
         }
     }
 
-    /// Returns the attribute of a set that has a name.
+    /// Returns the attribute with a name in a set.
     pub fn get<V: Values>(&self, values: &V, set: usize, name: &str) -> Option<usize>
         ensures { result ≡ found_in self.now (V.keys values.now) set name.now }
     {
@@ -90,7 +90,7 @@ impl Attributes {
         }
     }
 
-    // Adds an attribute of which no other value is found.
+    // Adds an attribute, as which no other value is found.
     fn add<V: Values>(
         &mut self,
         alloc: Global,
@@ -112,7 +112,7 @@ impl Attributes {
         Ok(())
     }
 
-    // Adds the attributes in the slots of others.
+    // Adds the attributes in the slots of another index.
     fn add_slots<V: Values>(
         &mut self,
         alloc: Global,
@@ -132,7 +132,7 @@ impl Attributes {
         Ok(())
     }
 
-    // Returns whether a value is found as the attribute of a set that has a name.
+    // Returns whether a value is found as the attribute with a name in a set.
     fn finds<V: Values>(&self, values: &V, set: usize, name: &str, number: usize) -> bool
         ensures found { IsTrue result → found_in self.now (V.keys values.now) set name.now ≡ Some number }
         ensures other { result ≡ false → found_in self.now (V.keys values.now) set name.now ≡ Some number → ⊥ }
@@ -143,7 +143,7 @@ impl Attributes {
         }
     }
 
-    // Adds an attribute, if others find it.
+    // Adds an attribute, if the other index finds it.
     fn add_found<V: Values>(
         &mut self,
         alloc: Global,
@@ -164,7 +164,7 @@ impl Attributes {
         Ok(())
     }
 
-    // Adds the attributes of a name that others have among the crowded.
+    // Adds the crowded attributes with a name of another index.
     fn add_sets<V: Values>(
         &mut self,
         alloc: Global,
@@ -183,7 +183,7 @@ impl Attributes {
         Ok(())
     }
 
-    // Adds the attributes that others have among the crowded.
+    // Adds the crowded attributes of another index.
     fn add_crowded<V: Values>(
         &mut self,
         alloc: Global,
@@ -201,7 +201,7 @@ impl Attributes {
         Ok(())
     }
 
-    // Makes room for twice as many slots that are taken.
+    // Doubles the number of slots that may be taken.
     fn grow<V: Values>(&mut self, alloc: Global, values: &V) -> Result<(), AllocError>
         requires { IsConsistent (V.keys values.now) self.old }
         ensures grown { OnOk result (IsSame (V.keys values.now) self.old self.new) }
@@ -218,7 +218,7 @@ impl Attributes {
         Ok(())
     }
 
-    // Makes a value the attribute of a set that has a name, without new slots.
+    // Makes a value the attribute with a name in a set, without adding slots.
     fn put<V: Values>(
         &mut self,
         alloc: Global,
@@ -241,7 +241,7 @@ impl Attributes {
         Ok(())
     }
 
-    /// Makes a value the attribute of a set that has a name. The values hold all attributes so far, and need not hold this one.
+    /// Makes a value the attribute with a name in a set. The values contain all attributes so far, but need not contain this one.
     pub fn insert<V: Values>(
         &mut self,
         alloc: Global,

@@ -22,7 +22,7 @@ pub struct Builder {
     ghost depths: { HaveDepths values.nodes.items } by { Prim.hlevel props },
 }
 
-// Makes the value that comes next the attribute of a set, if it is inside one.
+// Makes the next value an attribute, if it is inside a set.
 fn attach(
     alloc: Global,
     values: &Nodes,
@@ -47,7 +47,7 @@ fn attach(
 impl Builder {
     ghost use Rattle.nix_values.specs.Building.{values_in, IsAddedLast};
 
-    /// Returns a builder of no data.
+    /// Returns an empty builder.
     pub fn new(alloc: Global) -> Builder
         ensures { values_in result ≡ [] }
     {
@@ -73,14 +73,14 @@ impl Builder {
         self.values.is_set(node)
     }
 
-    /// Returns the attribute of a set that has a name.
+    /// Returns the attribute with a name in a set.
     pub fn attribute(&self, set: usize, name: &str) -> Option<usize>
         ensures { result ≡ attribute_of (values_in self.now) set name.now }
     {
         self.attributes.get(&self.values, set, name)
     }
 
-    /// Adds a value to a list or a set, or as the whole.
+    /// Adds a value to a list or a set, or as an outermost value.
     pub fn add(
         &mut self,
         alloc: Global,

@@ -4,7 +4,7 @@ ghost use Rattle.std.specs.Prelude.{◌≡◌, ◌≤◌, length, drop, slice_in
 ghost use Rattle.std.specs.Char.{is_ascii_digit};
 ghost use Rattle.std.specs.List.{prefix_len};
 
-/// Returns the byte at an index, or 0 past the end.
+/// Returns the byte at an index, or 0 after the end.
 #[inline]
 pub fn byte_at(bytes: &[u8], index: usize) -> u8
     ensures { result ≡ slice_index bytes.now index }
@@ -24,7 +24,7 @@ pub fn bytes_from(bytes: &[u8], index: usize) -> &[u8]
     }
 }
 
-/// Returns how many digits come first.
+/// Returns the number of leading digits.
 #[inline]
 pub fn digits(bytes: &[u8]) -> usize
     ensures len { result ≡ prefix_len is_ascii_digit bytes.now }

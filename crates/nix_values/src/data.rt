@@ -13,7 +13,7 @@ pub enum Value {
     Bool(bool),
     /// An integer.
     Integer(i64),
-    /// A float, as its digits: with a digit before the point and one after it, as both Nix and JSON write it.
+    /// A float, as digits with a point between them, as both Nix and JSON write it.
     Float(String),
     /// A string, or a path as a string.
     Text(String),
@@ -23,18 +23,18 @@ pub enum Value {
     Set,
 }
 
-/// A value with its place in the data.
+/// A value with its depth and name.
 #[derive(Debug, Drop)]
 pub struct Item {
     /// The number of lists and sets around it.
     pub depth: usize,
-    /// The name of the attribute that it is the value of; empty in a list, and for the whole.
+    /// The name of the attribute whose value it is; empty in a list and for the outermost value.
     pub name: String,
     /// The value.
     pub value: Value,
 }
 
-/// Data: each value is followed by the values inside it, in order. The first item is the whole.
+/// Data: each value is followed by the values inside it, in order. The first item is the outermost value.
 #[derive(Debug, Drop)]
 pub struct Data {
     /// The values.
@@ -42,14 +42,14 @@ pub struct Data {
 }
 
 impl Value {
-    /// Returns whether the value holds values: whether it is a list or a set.
+    /// Returns whether the value can contain others: whether it is a list or a set.
     pub fn has_parts(&self) -> bool
         ensures { result ≡ has_parts (plain_of self.now) }
     {
         matches!(self, Value::List | Value::Set)
     }
 
-    // Returns whether two values are the same, without the values inside them.
+    // Returns whether two values are equal, without the values inside them.
     fn is_same(&self, other: &Value) -> bool
         ensures { IsTrue result → plain_of self.now ≡ plain_of other.now }
     {
@@ -67,7 +67,7 @@ impl Value {
 }
 
 impl Item {
-    // Returns whether two values are the same and have the same place.
+    // Returns whether two items have equal values, depths and names.
     fn is_same(&self, other: &Item) -> bool
         ensures { IsTrue result → entry_of self.now ≡ entry_of other.now }
     {
@@ -77,7 +77,7 @@ impl Item {
     }
 }
 
-// Returns whether all items are the same.
+// Returns whether all items are equal.
 fn are_same(ones: &[Item], others: &[Item]) -> bool
     ensures { IsTrue result → map entry_of ones.now ≡ map entry_of others.now }
 {
@@ -93,7 +93,7 @@ fn are_same(ones: &[Item], others: &[Item]) -> bool
 }
 
 impl Data {
-    /// Returns whether the values are the same, in the same order.
+    /// Returns whether both contain the same values in the same order.
     pub fn is_same(&self, other: &Data) -> bool
         ensures { IsTrue result → contents self.now ≡ contents other.now }
     {

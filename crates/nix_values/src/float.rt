@@ -8,7 +8,7 @@ use std::alloc::{AllocError, Global};
 
 const ZERO: f64 = 0.0;
 
-// Returns whether a digit other than 0 precedes the exponent of a number.
+// Returns whether a number has a digit other than 0 before its exponent.
 fn has_value(number: &[u8]) -> bool
     ensures { result ≡ has_value number.now }
 {
@@ -34,7 +34,7 @@ pub fn is_held(number: &str) -> bool
     }
 }
 
-/// Returns a text without an ASCII byte that it may begin with.
+/// Returns a text without its first byte, if that is the given ASCII byte.
 pub fn without_first(text: &str, byte: u8) -> &str
     requires some { 0 < byte }
     requires ascii { byte < 128 }
@@ -47,7 +47,7 @@ pub fn without_first(text: &str, byte: u8) -> &str
     }
 }
 
-// Returns the digits that a text begins with, and what follows them.
+// Returns the digits with which a text begins, and what follows them.
 fn split_digits(text: &str) -> (&str, &str)
     ensures front { result.0.now ≡ first_digits text.now }
     ensures back { result.1.now ≡ after_digits text.now }
@@ -55,7 +55,7 @@ fn split_digits(text: &str) -> (&str, &str)
     text.split_at(digits(text.as_bytes()))
 }
 
-// Digits, or `0` if there are none.
+// Returns digits, or `0` if there are none.
 fn or_zero(digits: &str) -> &str
     ensures { result.now ≡ or_zero digits.now }
 {
@@ -71,7 +71,7 @@ fn push_fraction(rest: &str, text: &mut String) -> Result<(), AllocError>
     text.push_str(exponent)
 }
 
-// Writes a number without a sign with a point that has a digit before it and one after it.
+// Writes a number without a sign, with a point between digits.
 fn push_unsigned(number: &str, text: &mut String) -> Result<(), AllocError>
     ensures { OnOk result (string_bytes text.new ≡ string_bytes text.old ++ unsigned_text number.now) }
 {
@@ -81,8 +81,8 @@ fn push_unsigned(number: &str, text: &mut String) -> Result<(), AllocError>
     push_fraction(without_first(rest, b'.'), text)
 }
 
-/// Returns a number with a point, with a digit before the point and one after it, or nothing if Nix cannot hold it. It is what a float of Nix
-/// or a number of JSON is written as.
+/// Returns a number with a point between digits, or `None` if Nix cannot hold it. A float in Nix and a number in JSON are
+/// written so.
 pub fn float_of(alloc: Global, number: &str) -> Result<Option<String>, AllocError>
     ensures { IfOk result (λ found. option_map string_bytes found ≡ float_text number.now) }
 {

@@ -21,7 +21,7 @@ fn hex_at(text: &[u8], index: usize) -> Option<u32>
     char::from(byte_at(text, index)).to_digit(16)
 }
 
-// Returns the number that the first four hexadecimal digits are.
+// Returns the code unit that the first four hexadecimal digits write.
 #[inline(never)]
 fn code_unit(text: &[u8]) -> Option<u32>
     ensures unit { result ≡ code_unit text.now }
@@ -35,7 +35,7 @@ fn code_unit(text: &[u8]) -> Option<u32>
     Some(first * 4096 + (second * 256 + (third * 16 + fourth)))
 }
 
-// Returns the number of an escape that may come first.
+// Returns the code unit of the escape with which a text begins, if there is one.
 fn low_half(text: &[u8]) -> Option<u32>
     ensures unit { result ≡ low_half text.now }
     ensures ascii { IfSome result (λ unit. EndsAscii text.now 6) }
@@ -47,7 +47,7 @@ fn low_half(text: &[u8]) -> Option<u32>
     }
 }
 
-// Returns the character of a surrogate pair, and the length of its escapes after the backslash.
+// Returns the character of a surrogate pair, and the length of both escapes after the backslash.
 fn paired(high: u32, low: Option<u32>) -> Result<(char, usize), JsonReason>
     requires { is_high high ≡ true }
     ensures found { Finds result (paired high low) }
@@ -66,14 +66,14 @@ fn paired(high: u32, low: Option<u32>) -> Result<(char, usize), JsonReason>
     }
 }
 
-// Returns whether a number is the first half of a pair.
+// Returns whether a code unit is the first half of a pair.
 fn is_high(unit: u32) -> bool
     ensures { result ≡ is_high unit }
 {
     unit >= 0xd800 && unit < 0xdc00
 }
 
-// Returns the character of a number, and the length of its escape after the backslash.
+// Returns the character of a code unit, and the length of its escape after the backslash.
 fn escaped_unit(unit: u32, rest: &[u8]) -> Result<(char, usize), JsonReason>
     requires { unit < 65536 }
     ensures found { Finds result (escaped_unit (Some unit) rest.now) }
@@ -92,7 +92,7 @@ fn escaped_unit(unit: u32, rest: &[u8]) -> Result<(char, usize), JsonReason>
     }
 }
 
-// Returns the character of the digits after `\u`, and the length of the escape after the backslash.
+// Returns the character with the digits after `\u`, and the length of the escape after the backslash.
 fn numbered(text: &[u8]) -> Result<(char, usize), JsonReason>
     ensures found { Finds result (numbered text.now) }
     ensures ascii { IfOk result (λ found. (0 < found.1) × EndsAscii text.now (found.1 - 1)) }
@@ -121,7 +121,7 @@ fn short_escape(letter: u8) -> Option<char>
     }
 }
 
-// Returns the character of an escape, and the escape's length after the backslash.
+// Returns the character of an escape, and the length of the escape after the backslash.
 #[tactic(auto, unfolding(crate::specs::JsonContent::escape_at))]
 fn escape_at(rest: &[u8]) -> Result<(char, usize), JsonReason>
     ensures found { Finds result (escape_at rest.now) }
@@ -158,7 +158,7 @@ fn after_plain<'t>(text: &'t str, value: &mut String) -> Result<&'t str, AllocEr
     Ok(rest)
 }
 
-// Writes the character of an escape, and returns the rest of the text. The text begins after the backslash, which is at an offset.
+// Writes the character of an escape, and returns the rest of the text. The text begins after the backslash, which is at the given offset.
 fn after_escape<'t>(text: &'t str, at: usize, value: &mut String) -> Result<&'t str, JsonStop>
     ensures read { Reads result (λ rest. IsEscape (string_bytes value.old) text.now (string_bytes value.new) rest.now) (escape_at text.now ≡ None) }
     ensures error { RefusesWith result (error_at (no_escape text.now) at) }
@@ -172,7 +172,7 @@ fn after_escape<'t>(text: &'t str, at: usize, value: &mut String) -> Result<&'t 
     }
 }
 
-/// Reads a string, and returns its value and its length in bytes with the closing quote. The text begins after the opening quote, at an offset.
+/// Reads a string, and returns its value and its length in bytes including the closing quote. The text begins after the opening quote, at the given offset.
 pub fn json_string(alloc: Global, text: &str, start: usize) -> Result<(String, usize), JsonStop>
     ensures read { Reads result (λ found. content 0 text.now ≡ Some (string_bytes found.0, found.1)) (content 0 text.now ≡ None) }
     ensures within { IfOk result (λ found. found.1 ≤ length text.now) }

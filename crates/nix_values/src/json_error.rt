@@ -18,27 +18,27 @@ pub enum JsonReason {
     NoCommaInList,
     /// A comma or the end of an object is missing.
     NoCommaInObject,
-    /// Something follows the value.
+    /// Something follows the outermost value.
     AfterValue,
-    /// A string does not end.
+    /// A string has no closing quote.
     OpenString,
     /// A control character in a string is not escaped.
     ControlCharacter,
-    /// A `\` with something that is no escape.
+    /// A `\` that begins no escape.
     NoEscape,
     /// Half of a surrogate pair.
     LoneSurrogate,
     /// The character 0 in a string.
     HasNul,
-    /// A number that is written wrong.
+    /// A malformed number.
     NoNumber,
     /// An integer that Nix cannot hold.
     TooLarge,
     /// A float that Nix cannot hold.
     NoFloat,
-    /// More lists and objects in one another than are allowed.
+    /// More lists and objects inside one another than are allowed.
     TooDeep,
-    /// A name that an object has twice.
+    /// A name that an object repeats.
     Repeated,
 }
 
@@ -71,16 +71,16 @@ impl JsonReason {
 pub struct JsonError {
     /// Why it is refused.
     pub reason: JsonReason,
-    /// Where, in bytes.
+    /// The offset of the error, in bytes.
     pub offset: usize,
     /// The offset of the first of two equal names, in bytes.
     pub first: Option<usize>,
 }
 
-/// Why no more is read.
+/// Why reading stops.
 #[derive(Drop)]
 pub enum JsonStop {
-    /// There is no memory.
+    /// An allocation failed.
     Memory,
     /// The text is refused.
     Refused(JsonError),
@@ -102,7 +102,7 @@ impl<T: Drop> From<AllocFailed<T>> for JsonStop {
     }
 }
 
-/// Refuses a text at an offset.
+/// Returns the refusal of a text at an offset.
 pub fn refused(reason: JsonReason, offset: usize) -> JsonStop
     ensures { result ≡ Refused (record { reason = reason; offset = offset; first = None }) }
 {

@@ -15,7 +15,7 @@ use std::alloc::{AllocError, Global};
 pub struct Location {
     /// The offset of its name, or of the value if it has no name.
     pub offset: usize,
-    /// The set that it is an attribute of.
+    /// The set whose attribute it is.
     pub set: Option<usize>,
 }
 
@@ -51,7 +51,7 @@ impl Found {
         }
     }
 
-    /// Makes the value that comes next the attribute of a set, if there is one.
+    /// Makes the next value an attribute, if it is inside a set.
     pub fn attach(
         &self,
         alloc: Global,

@@ -1,4 +1,4 @@
-//! Numbers of JSON.
+//! Numbers in JSON.
 
 ghost use Rattle.std.specs.Prelude.{◌≡◌, ℕ, ◌<◌, ◌≤◌, true, length, Some, None, IfSome, IfOk, option_map};
 ghost use Rattle.std.specs.Str.Parse.{IsNumeral};
@@ -14,7 +14,7 @@ use crate::float::{float_of, without_first};
 use crate::json_error::{JsonReason, JsonStop, refused};
 use std::alloc::Global;
 
-// Returns where the digits end that must be at an offset.
+// Returns the end of the digits at an offset, where at least one is required.
 fn some_digits(text: &[u8], from: usize) -> Option<usize>
     requires { from ≤ length text.now }
     ensures end { result ≡ some_digits from text.now }
@@ -24,7 +24,7 @@ fn some_digits(text: &[u8], from: usize) -> Option<usize>
     if end == from { None } else { Some(end) }
 }
 
-// Returns where the whole part ends.
+// Returns the end of the integer part.
 fn whole_end(text: &[u8], from: usize) -> Option<usize>
     requires { from ≤ length text.now }
     ensures end { result ≡ whole_end from text.now }
@@ -37,7 +37,7 @@ fn whole_end(text: &[u8], from: usize) -> Option<usize>
     }
 }
 
-// Returns where the fraction ends that may be at an offset.
+// Returns the end of the fraction at an offset, or the offset if there is no fraction.
 fn fraction_end(text: &[u8], from: usize) -> Option<usize>
     requires { EndsAscii text.now from }
     ensures end { result ≡ fraction_end from text.now }
@@ -50,7 +50,7 @@ fn fraction_end(text: &[u8], from: usize) -> Option<usize>
     }
 }
 
-// Returns where the exponent ends that may be at an offset.
+// Returns the end of the exponent at an offset, or the offset if there is no exponent.
 fn exponent_end(text: &[u8], from: usize) -> Option<usize>
     requires { EndsAscii text.now from }
     ensures end { result ≡ exponent_end from text.now }
@@ -67,7 +67,7 @@ fn exponent_end(text: &[u8], from: usize) -> Option<usize>
     }
 }
 
-// Returns where the fraction and the exponent end that may be at an offset.
+// Returns the end of the fraction and the exponent at an offset; both are optional.
 fn decimals_end(text: &[u8], from: usize) -> Option<usize>
     requires { EndsAscii text.now from }
     ensures end { result ≡ decimals_end from text.now }
@@ -79,7 +79,7 @@ fn decimals_end(text: &[u8], from: usize) -> Option<usize>
     }
 }
 
-// Returns where the whole part begins.
+// Returns the offset of the integer part.
 fn unsigned_start(text: &[u8]) -> usize
     ensures start { result ≡ unsigned_start text.now }
     ensures within { result ≤ length text.now }
@@ -87,7 +87,7 @@ fn unsigned_start(text: &[u8]) -> usize
     if byte_at(text, 0) == b'-' { 1 } else { 0 }
 }
 
-// Returns where a number ends, and whether it is an integer.
+// Returns the end of a number, and whether it is an integer.
 fn number_end(text: &[u8]) -> Option<(usize, bool)>
     ensures end { result ≡ number_end text.now }
     ensures ascii { IfSome result (λ n. EndsAscii text.now n.0) }
@@ -135,7 +135,7 @@ fn number_value(
     }
 }
 
-/// Reads the number that a text begins with, and returns its length. The text begins at an offset.
+/// Reads the number with which a text begins, and returns its length. The text begins at the given offset.
 pub fn json_number(alloc: Global, text: &str, start: usize) -> Result<(Value, usize), JsonStop>
     ensures read { Reads result (λ found. number_at text.now ≡ Some (plain_of found.0, found.1)) (number_at text.now ≡ None) }
     ensures within { IfOk result (λ found. (0 < found.1) × (found.1 ≤ length text.now)) }

@@ -16,7 +16,7 @@ use crate::json_found::{Found, Location, named_or};
 use crate::json_tokens::{Token, after_space, json_token};
 use std::alloc::{AllocError, Global};
 
-// The most lists and objects in one another.
+// The largest number of lists and objects inside one another.
 const MOST_DEPTH: usize = 512;
 
 // What may come next.
@@ -39,7 +39,7 @@ struct Frame {
     is_set: bool,
 }
 
-// What is read so far.
+// What has been read so far.
 #[derive(Drop)]
 struct Reading {
     alloc: Global,
@@ -51,14 +51,14 @@ struct Reading {
     state: State,
 }
 
-// Returns the value that begins with a bracket.
+// Returns the value that an opening bracket begins.
 fn opened_value(is_set: bool) -> Value
     ensures { plain_of result ≡ opened_plain is_set }
 {
     if is_set { Value::Set } else { Value::List }
 }
 
-// Returns what may come next inside it.
+// Returns what may come next after the opening bracket.
 fn opened(is_set: bool) -> State
     ensures { result ≡ opened is_set }
 {
@@ -104,7 +104,7 @@ impl Reading {
         }
     }
 
-    // Returns what comes after a value.
+    // Returns the state after a value.
     fn after_value(&self) -> State
         ensures { result ≡ state_behind self.now.frames.items }
     {
@@ -144,7 +144,7 @@ impl Reading {
         refused(self.expected(), at)
     }
 
-    // Returns the innermost set, if it is in no list.
+    // Returns the innermost list or set, if it is a set.
     fn innermost_set(&self) -> Option<usize>
         ensures { result ≡ set_of (last_frame self.now.frames.items) }
     {
@@ -218,7 +218,7 @@ impl Reading {
         matches!(self.state, State::End)
     }
 
-    // Takes a value that holds no values.
+    // Accepts a value that contains no others.
     fn take_scalar(&mut self, value: Value, at: usize) -> Result<(), JsonStop>
         requires sound { IsSound self.old }
         requires placed { IsPlacedIn self.old }
@@ -233,7 +233,7 @@ impl Reading {
         Ok(())
     }
 
-    // Takes the beginning of a list or a set.
+    // Accepts the beginning of a list or a set.
     fn take_open(&mut self, is_set: bool, at: usize) -> Result<(), JsonStop>
         requires sound { IsSound self.old }
         requires placed { IsPlacedIn self.old }
@@ -252,7 +252,7 @@ impl Reading {
         Ok(())
     }
 
-    // Returns the attribute of the innermost set that has a name.
+    // Returns the attribute with a name in the innermost set.
     fn attribute(&self, name: &str) -> Option<usize>
         requires { IsPlacedIn self.now }
         ensures taken { IfSome result (λ number. IsTaken self.now number name.now) }
@@ -262,7 +262,7 @@ impl Reading {
         self.attributes.get(&self.found, set, name)
     }
 
-    // Takes a string: a name or a value.
+    // Accepts a string: a name or a value.
     fn take_text(&mut self, text: String, at: usize) -> Result<(), JsonStop>
         requires sound { IsSound self.old }
         requires placed { IsPlacedIn self.old }
@@ -284,7 +284,7 @@ impl Reading {
         Ok(())
     }
 
-    // Takes the end of a list or a set.
+    // Accepts the end of a list or a set.
     fn take_close(&mut self, is_set: bool, at: usize) -> Result<(), JsonStop>
         requires sound { IsSound self.old }
         requires placed { IsPlacedIn self.old }
@@ -305,7 +305,7 @@ impl Reading {
         Ok(())
     }
 
-    // Takes a comma.
+    // Accepts a comma.
     fn take_comma(&mut self, at: usize) -> Result<(), JsonStop>
         requires sound { IsSound self.old }
         requires placed { IsPlacedIn self.old }
@@ -326,7 +326,7 @@ impl Reading {
         Ok(())
     }
 
-    // Takes a colon.
+    // Accepts a colon.
     fn take_colon(&mut self, at: usize) -> Result<(), JsonStop>
         requires sound { IsSound self.old }
         requires placed { IsPlacedIn self.old }
@@ -340,7 +340,7 @@ impl Reading {
         Ok(())
     }
 
-    // Takes a token.
+    // Accepts a token.
     fn take(&mut self, token: Token, at: usize) -> Result<(), JsonStop>
         requires sound { IsSound self.old }
         requires placed { IsPlacedIn self.old }

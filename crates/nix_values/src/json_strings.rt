@@ -23,7 +23,7 @@ pub fn plain_len(bytes: &[u8]) -> usize
     bytes.iter().take_while(|byte| is_plain(**byte)).count()
 }
 
-// Returns the digit of a number below 16 in hexadecimal.
+// Returns the hexadecimal digit of a number below 16.
 fn digit(number: u8) -> char
     ensures { number < 16 → result ≡ digit_char number }
 {
@@ -68,7 +68,7 @@ fn push_escape(byte: u8, text: &mut String) -> Result<(), AllocError>
     }
 }
 
-/// Writes a text, if there is any.
+/// Writes a text, unless it is empty.
 pub fn push_some(part: &str, text: &mut String) -> Result<(), AllocError>
     ensures { OnOk result (string_bytes text.new ≡ string_bytes text.old ++ part.now) }
 {
@@ -79,7 +79,7 @@ pub fn push_some(part: &str, text: &mut String) -> Result<(), AllocError>
     }
 }
 
-// Writes the leading bytes that need no escape and the escape of the byte after them, and returns the rest.
+// Writes the leading bytes that need no escape and the escape of the next byte, and returns the rest.
 fn push_run<'t>(value: &'t str, text: &mut String) -> Result<&'t str, AllocError>
     ensures written { IfOk result (λ rest. string_bytes text.new ++ flat_map escape rest.now ≡ string_bytes text.old ++ flat_map escape value.now) }
     ensures fewer { IfOk result (λ rest. 0 < length value.now → length rest.now < length value.now) }

@@ -15,9 +15,9 @@ use std::alloc::Global;
 /// A token.
 #[derive(Drop)]
 pub enum Token {
-    /// `[`, or `{` of a set.
+    /// `[`, or `{` if it begins a set.
     Open(bool),
-    /// `]`, or `}` of a set.
+    /// `]`, or `}` if it ends a set.
     Close(bool),
     /// `,`.
     Comma,
@@ -25,9 +25,9 @@ pub enum Token {
     Colon,
     /// A string.
     Text(String),
-    /// Another value that holds no values.
+    /// Another value that contains no others.
     Scalar(Value),
-    /// What begins no token.
+    /// Bytes that begin no token.
     Other,
 }
 
@@ -83,7 +83,7 @@ pub fn after_space(text: &str, at: usize) -> usize
     }
 }
 
-// Returns one of the three words that a text may begin with, and its length.
+// Returns the keyword with which a text begins, and its length.
 fn word_at(bytes: &[u8]) -> (Token, usize)
     ensures { IsWord bytes.now result.0 result.1 }
 {
@@ -98,7 +98,7 @@ fn word_at(bytes: &[u8]) -> (Token, usize)
     }
 }
 
-// Returns the token that the word at an offset is.
+// Returns the token of the keyword at an offset.
 fn word(bytes: &[u8], at: usize) -> Cut
     requires { at < length bytes.now }
     ensures { IsCutOf (word_at (drop at bytes.now)) bytes.now at result }
@@ -128,7 +128,7 @@ fn string_token(alloc: Global, text: &str, at: usize) -> Result<Cut, JsonStop>
     }
 }
 
-// Returns the number that begins at an offset with a byte of ASCII.
+// Returns the number that begins at an offset with an ASCII byte.
 fn number_token(alloc: Global, text: &str, at: usize) -> Result<Cut, JsonStop>
     requires within { at < length text.now }
     requires ascii { slice_index text.now at < 128 }

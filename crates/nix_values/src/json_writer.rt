@@ -11,7 +11,7 @@ use crate::layout::push_indentation;
 use crate::notation::{Notation, kept};
 use std::alloc::{AllocError, Global};
 
-// A text that is being written, with the lists and sets that are open, the innermost last: whether each is a set.
+// A text that is being written. For each open list or set, innermost last, it records whether it is a set.
 #[derive(Drop)]
 struct Writing {
     text: String,
@@ -25,7 +25,7 @@ impl Writing {
         push_indentation(self.open.len(), &mut self.text)
     }
 
-    // Closes the lists and sets below a depth.
+    // Closes the lists and sets that are at least as deep as a depth.
     fn close(&mut self, depth: usize) -> Result<(), AllocError> {
         for _open in depth..self.open.len() {
             if let Some(is_set) = self.open.pop() {
@@ -59,7 +59,7 @@ impl Writing {
         }
     }
 
-    // Writes an item, which is empty if nothing is inside it, and the first of a list or a set if no other one was before it there.
+    // Writes an item, given whether it is empty and whether it is the first one in its list or set.
     fn write(&mut self, item: &Item, is_first: bool, is_empty: bool) -> Result<(), AllocError> {
         self.close(item.depth)?;
         if !self.open.is_empty() {
@@ -74,7 +74,7 @@ impl Writing {
     }
 }
 
-// Data as JSON.
+// Returns data as JSON.
 fn written(alloc: Global, data: &Data) -> Result<String, AllocError> {
     let mut writing = Writing {
         text: String::new(alloc),
@@ -92,7 +92,7 @@ fn written(alloc: Global, data: &Data) -> Result<String, AllocError> {
     Ok(writing.text)
 }
 
-// JSON.
+// JSON as a notation for data.
 struct Json;
 
 impl Notation for Json {
@@ -108,7 +108,7 @@ impl Notation for Json {
     }
 }
 
-/// Returns data as JSON, or nothing if the JSON does not read as the same data.
+/// Returns data as JSON, or `None` if the JSON does not read as the same data.
 pub fn json_of(alloc: Global, whole: &Data) -> Result<Option<String>, AllocError>
     ensures { IfOk result (λ made. IfSome made (λ text. IsJson (string_bytes text) (contents whole.now))) }
 {

@@ -2,10 +2,10 @@
 
 use std::alloc::AllocError;
 
-// The spaces of one level.
+// The spaces per level.
 const LEVEL: &str = "  ";
 
-// Deeper levels are indented like this one, so that the text stays in proportion to the data.
+// Deeper levels are indented like this one, so that the length of the text stays proportional to that of the data.
 const DEEPEST: usize = 32;
 
 /// Begins a line at a depth.

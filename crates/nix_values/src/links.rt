@@ -1,15 +1,15 @@
-//! Links between values: to the first value inside each one, and to the next value beside it.
+//! Links between values: to the first value inside each one, and to the next value in the same group.
 
 ghost use Rattle.std.specs.Prelude.{◌≡◌, ◌++◌, length, option_to_list, slice_index_or, slice_set, replicate, suc, IfOk, OnOk};
 
 use std::alloc::{AllocError, Global};
 
-/// The links between values. Values inside the same one are a group: group 0 holds the outermost values, and group `n + 1` those inside value `n`.
+/// The links between values. The values with the same parent are a group: group 0 contains the outermost values, and group `n + 1` those inside value `n`.
 #[derive(Drop)]
 pub struct Links {
     /// The first value of each group.
     pub first: Vec<Option<usize>>,
-    /// For each value, the next one of its group.
+    /// For each value, the next one in its group.
     pub next: Vec<Option<usize>>,
 }
 
@@ -24,7 +24,7 @@ pub fn push_some(numbers: &mut Vec<usize>, number: Option<usize>) -> Result<(), 
 }
 
 impl Links {
-    /// Returns the links between values of which none is in a group yet.
+    /// Returns the links between values none of which is in a group yet.
     pub fn new(alloc: Global, count: usize) -> Result<Links, AllocError>
         ensures first { IfOk result (λ links. links.first.items ≡ replicate (suc count) None) }
         ensures next { IfOk result (λ links. links.next.items ≡ replicate count None) }
@@ -47,7 +47,7 @@ impl Links {
         }
     }
 
-    /// Returns the next value of a value's group.
+    /// Returns the next value in a value's group.
     pub fn next_of(&self, number: usize) -> Option<usize>
         ensures { result ≡ slice_index_or self.now.next.items number None }
     {
@@ -57,7 +57,7 @@ impl Links {
         }
     }
 
-    /// Puts a value before all others of its group.
+    /// Puts a value before all others in its group.
     pub fn put_first(&mut self, group: usize, number: usize)
         ensures first { self.new.first.items ≡ slice_set self.old.first.items group (Some number) }
         ensures next { self.new.next.items ≡ slice_set self.old.next.items number (slice_index_or self.old.first.items group None) }

@@ -17,7 +17,7 @@ use std::mem;
 /// A value, found before the values inside it.
 #[derive(Drop)]
 pub struct Node {
-    /// The value that it is inside.
+    /// Its parent: the list or set that contains it.
     pub parent: Option<usize>,
     /// The number of values around it.
     pub depth: usize,
@@ -46,7 +46,7 @@ impl Values for Nodes {
     }
 }
 
-// Returns whether a group is that of the values inside the last of some values, or the outermost group if there are none.
+// Returns whether a group is that of the values inside the last one of these, or the outermost group if there are none.
 fn is_inside_last(group: usize, numbers: &[usize]) -> bool
     ensures { IsTrue result → group ≡ innermost 0 numbers.now }
 {
@@ -67,7 +67,7 @@ impl Nodes {
         }
     }
 
-    /// Returns the depth of what is added to a value, or of what is added as an outermost value.
+    /// Returns the depth of a value that is added inside another, or of one that is added as an outermost value.
     pub fn depth_inside(&self, parent: Option<usize>) -> usize
         requires { HaveDepths self.now.nodes.items }
         ensures depth { result ≡ depth_under self.now.nodes.items (parent_before (length self.now.nodes.items) parent) }
@@ -82,7 +82,7 @@ impl Nodes {
         }
     }
 
-    // Returns the group of a value: 0 if it is outermost, and one more than the number of its parent if not.
+    // Returns the group of a value: 0 if it is outermost, and otherwise one more than the number of its parent.
     fn group(&self, number: usize) -> usize
         ensures { result ≡ slice_index (groups_of (map built_of self.now.nodes.items)) number }
     {
@@ -95,11 +95,11 @@ impl Nodes {
         }
     }
 
-    // Returns whether the values were added in their order in the data: each one to the last value before it, or to one around that.
+    // Returns whether the values were added in the order of the data: each one inside the last value before it, or inside one that contains that.
     fn is_in_order(&self, alloc: Global) -> Result<bool, AllocError>
         ensures { IfOk result (λ is. IsTrue is → order_of (groups_of (map built_of self.now.nodes.items)) ≡ range_with_len 0 (length self.now.nodes.items)) }
     {
-        // The last value and those around it, the outermost one first.
+        // The last value and those that contain it, outermost first.
         let mut around = Vec::new(alloc);
         for (number, node) in self.nodes.iter().enumerate() {
             around.truncate(node.depth);
@@ -111,7 +111,7 @@ impl Nodes {
         Ok(true)
     }
 
-    // Links the values. From the last to the first, each becomes the first of its group.
+    // Links the values, from the last to the first: each becomes the first in its group.
     fn links(&self, alloc: Global) -> Result<Links, AllocError>
         ensures { IfOk result (λ links. AreLinkedFrom 0 (groups_of (map built_of self.now.nodes.items)) links) }
     {
@@ -122,7 +122,7 @@ impl Nodes {
         Ok(links)
     }
 
-    // Returns the numbers of the values in their order in the data: each is followed by those inside it.
+    // Returns the numbers of the values in the order of the data: each is followed by those inside it.
     fn order(&self, alloc: Global) -> Result<Vec<usize>, AllocError>
         ensures { IfOk result (λ order. order.items ≡ order_of (groups_of (map built_of self.now.nodes.items))) }
     {
@@ -153,7 +153,7 @@ impl Nodes {
         Ok(items)
     }
 
-    // Takes the value with a number out, if there is one.
+    // Takes the value with a number, if there is one.
     fn take(&mut self, alloc: Global, number: usize) -> Option<Item>
         ensures taken { map entry_of (option_to_list result) ≡ entry_at self.old.nodes.items number }
         ensures others { (k : ℕ) → (number ≡ k → ⊥) → slice_get self.new.nodes.items k ≡ slice_get self.old.nodes.items k }
@@ -168,7 +168,7 @@ impl Nodes {
         }
     }
 
-    // Returns the values with some numbers, none of which is there twice.
+    // Returns the values with these numbers, which are distinct.
     fn into_ordered(mut self, alloc: Global, order: &[usize]) -> Result<Vec<Item>, AllocError>
         requires { AreDistinct order.now }
         ensures { IfOk result (λ items. map entry_of items.items ≡ entries_at self.nodes.items order.now) }
@@ -182,7 +182,7 @@ impl Nodes {
         Ok(items)
     }
 
-    /// Returns the values in their order in the data.
+    /// Returns the values in the order of the data.
     pub fn into_items(self, alloc: Global) -> Result<Vec<Item>, AllocError>
         requires { HaveDepths self.nodes.items }
         ensures { IfOk result (λ items. map entry_of items.items ≡ preorder (map built_of self.nodes.items)) }

@@ -1,4 +1,4 @@
-//! Texts that are kept only if they read as the data that they were written for.
+//! Texts that are kept only if they read as the data for which they were written.
 
 ghost use Rattle.std.specs.Prelude.{◌≡◌, ℕ, List, IfOk, IfSome, string_bytes};
 ghost use Rattle.nix_values.specs.Contents.{Entry, contents};
@@ -6,17 +6,17 @@ ghost use Rattle.nix_values.specs.Contents.{Entry, contents};
 use crate::data::Data;
 use std::alloc::{AllocError, Global};
 
-/// A way to write data as texts.
+/// A way to write data as text.
 pub trait Notation {
-    // What a text may be read as.
+    // What a text may be read as, in a specification.
     ghost reads: { List ℕ → List Entry → Type 0 };
 
-    /// Returns the data of a text, or nothing if the text is refused.
+    /// Returns the data of a text, or `None` if the text is refused.
     fn read(&self, alloc: Global, text: &str) -> Result<Option<Data>, AllocError>
         ensures { IfOk result (λ found. IfSome found (λ found. reads text.now (contents found))) };
 }
 
-/// Returns a text if it reads as some data, and nothing if it does not.
+/// Returns a text if it reads as the given data, and `None` otherwise.
 pub fn kept<N: Notation>(
     alloc: Global,
     notation: &N,

@@ -1,4 +1,4 @@
-//! Attributes in the order of their names.
+//! Attributes ordered by name.
 
 ghost use Rattle.std.specs.Prelude.{◌≡◌, ℕ, List, OnOk, OnErr};
 ghost use Rattle.nix_values.specs.OrderedNames.{crowded_in, IsWithCrowded, IsSameCrowded, HasNoCrowded};
@@ -6,10 +6,10 @@ ghost use Rattle.nix_values.specs.OrderedNames.{crowded_in, IsWithCrowded, IsSam
 use std::alloc::{AllocError, Global};
 use std::collections::BTreeMap;
 
-/// The attributes of sets by their names.
+/// The attributes of sets, ordered by name.
 #[derive(Drop)]
 pub struct OrderedAttributes {
-    /// For each name its attribute of each set.
+    /// For each name, the attribute of each set that has one.
     pub names: BTreeMap<String, BTreeMap<usize, usize>>,
 }
 
@@ -23,7 +23,7 @@ impl OrderedAttributes {
         }
     }
 
-    /// Returns the attribute of a set that has a name.
+    /// Returns the attribute with a name in a set.
     pub fn get(&self, set: usize, name: &str) -> Option<usize>
         ensures { result ≡ crowded_in self.now set name.now }
     {
@@ -33,7 +33,7 @@ impl OrderedAttributes {
         }
     }
 
-    /// Makes a value the attribute of a set that has a name.
+    /// Makes a value the attribute with a name in a set.
     pub fn insert(
         &mut self,
         alloc: Global,

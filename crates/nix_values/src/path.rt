@@ -4,7 +4,7 @@ use crate::data::{Data, Item, Value};
 use crate::path_names::{PathName, names_of};
 use std::alloc::{AllocError, Global};
 
-// Returns the number of the attribute of a name, or of the item of a number, in the value of a number.
+// Returns the number of the attribute with a name, or of the item with an index, inside the value with a number.
 fn inside(items: &[Item], number: usize, name: &PathName) -> Option<usize> {
     let around = items.get(number)?;
     let is_set = matches!(&around.value, Value::Set);
@@ -25,7 +25,7 @@ fn inside(items: &[Item], number: usize, name: &PathName) -> Option<usize> {
     None
 }
 
-// Returns the number of the part that a dotted path leads to.
+// Returns the number of the part to which a dotted path leads.
 fn number_at(alloc: Global, items: &[Item], path: &str) -> Result<Option<usize>, AllocError> {
     let Some(names) = names_of(alloc, path)? else {
         return Ok(None);
@@ -40,7 +40,7 @@ fn number_at(alloc: Global, items: &[Item], path: &str) -> Result<Option<usize>,
     Ok(Some(number))
 }
 
-// Returns the part that begins with the item of a number.
+// Returns the part that begins with the item with a number.
 fn part_at(alloc: Global, items: Vec<Item>, start: usize) -> Result<Vec<Item>, AllocError> {
     let mut part = Vec::new(alloc);
     let mut depth = 0;
@@ -66,8 +66,8 @@ fn part_at(alloc: Global, items: Vec<Item>, start: usize) -> Result<Vec<Item>, A
 }
 
 impl Data {
-    /// Returns the part that a dotted path of names leads to. In a list, the items are named by their numbers from 0. A name in quotes is that of an
-    /// attribute, and its escapes are those of a string of Nix.
+    /// Returns the part to which a dotted path of names leads. The items of a list are named by their indices, from 0. A name in quotes is that of an
+    /// attribute, and its escapes are those of a string in Nix.
     pub fn part(self, alloc: Global, path: &str) -> Result<Option<Data>, AllocError> {
         let Data { items } = self;
         match number_at(alloc, items.as_slice(), path)? {

@@ -22,10 +22,10 @@ impl PathName {
     }
 }
 
-// What was read last of a path.
+// The part of a path that was read last.
 #[derive(Clone, Copy, PartialEq, Eq)]
 enum State {
-    // Nothing of a name.
+    // Nothing of the current name.
     Start,
     // A part of a name without quotes.
     Plain,
@@ -77,7 +77,7 @@ impl Reading {
         Ok(())
     }
 
-    // Reads a character. Returns whether it is allowed here: after a closing quote only a dot is.
+    // Reads a character. Returns whether it is allowed: only a dot may follow a closing quote.
     fn read(&mut self, letter: char) -> Result<bool, AllocError> {
         match (self.state, letter) {
             (State::Start, '"') => {

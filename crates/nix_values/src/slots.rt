@@ -1,4 +1,4 @@
-//! A hash table of numbers. A hash that has too many others near it finds no slot there.
+//! A hash table of numbers. A hash with too many others near it gets no slot.
 
 ghost use Rattle.std.specs.Prelude.{◌≡◌, ◌<◌, ◌+◌, ◌^◌, IsTrue, IfOk, true, false};
 ghost use Rattle.nix_values.specs.AttributeHash.{attribute_hash};
@@ -6,13 +6,13 @@ ghost use Rattle.nix_values.specs.AttributeHash.{attribute_hash};
 use std::alloc::{AllocError, Global};
 use std::hash::{FoldHasher, Hasher};
 
-// How many slots a hash may have, from its first one on.
+// The largest number of slots that a hash may have, from its first one on.
 const WINDOW: usize = 16;
 
-// The fewest first slots that a table has.
+// The smallest number of first slots of a table that is not empty.
 const LEAST: usize = 16;
 
-// What is in a free slot in place of a number.
+// What a free slot contains in place of a number.
 const FREE: usize = usize::MAX;
 
 /// A number with its hash, or a free slot.
@@ -27,23 +27,23 @@ pub struct Slot {
 pub enum Spot {
     /// At a free slot: no number has the hash.
     Free(usize),
-    /// At the slot of a number with the hash.
+    /// At the slot with the number for this hash.
     Taken(usize, usize),
-    /// Nowhere: all slots of the hash are taken by numbers with others.
+    /// Nowhere: all slots of the hash contain numbers with other hashes.
     Full,
 }
 
 impl Slot {
     ghost use Rattle.nix_values.specs.HashSlots.{is_free, slot_entry};
 
-    /// Returns whether no number is here.
+    /// Returns whether the slot is free.
     pub fn is_free(self) -> bool
         ensures { result ≡ is_free self }
     {
         self.number == FREE
     }
 
-    /// Returns the number that is here, and its hash.
+    /// Returns the number in the slot, and its hash.
     pub fn entry(self) -> Option<(u64, usize)>
         ensures { result ≡ slot_entry self }
     {
@@ -55,13 +55,13 @@ impl Slot {
     }
 }
 
-/// Numbers by their hashes: each is in the first slot of its hash, or in one of those after it.
+/// Numbers by hash: each is in the first slot of its hash, or in one of those after it.
 #[derive(Drop)]
 pub struct Slots {
     slots: Vec<Slot>,
-    // The number of first slots, less one. It has only ones in binary.
+    // The number of first slots, minus one. Its binary digits are all ones.
     mask: usize,
-    // How many slots are taken.
+    // The number of taken slots.
     count: usize,
     ghost small: { mask < 2 ^ 63 },
 }
@@ -69,7 +69,7 @@ pub struct Slots {
 impl Slots {
     ghost use Rattle.nix_values.specs.HashSlots.{first_of, spot_of, slot_at, HasNone, IsPut, IsStored, IsNotStored};
 
-    /// Returns a table of no slots.
+    /// Returns a table without slots.
     pub fn new(alloc: Global) -> Slots
         ensures { HasNone result }
     {
@@ -80,7 +80,7 @@ impl Slots {
         }
     }
 
-    /// Returns free slots for a count of numbers: at least twice as many.
+    /// Returns a table of free slots for a count of numbers: at least twice as many.
     pub fn with_room(alloc: Global, count: usize) -> Result<Slots, AllocError>
         ensures { IfOk result (λ slots. HasNone slots) }
     {
@@ -97,19 +97,19 @@ impl Slots {
         })
     }
 
-    /// Returns how many slots are taken.
+    /// Returns the number of taken slots.
     pub fn count(&self) -> usize
         ensures { result ≡ self.now.count }
     {
         self.count
     }
 
-    /// Returns whether one more may be taken: at most half as many are as there are first slots.
+    /// Returns whether one more slot may be taken: at most half as many as there are first slots.
     pub fn has_room(&self) -> bool {
         self.count < self.mask / 2
     }
 
-    /// All slots.
+    /// Returns all slots.
     pub fn slots(&self) -> &[Slot]
         ensures { result.now ≡ self.now.slots.items }
     {
@@ -155,7 +155,7 @@ impl Slots {
         }
     }
 
-    /// Puts a number into the first free slot of its hash, if there is one and no number has this hash. Returns whether it did.
+    /// Puts a number into the first free slot of its hash, if there is one and no number has this hash. Returns whether it was put there.
     pub fn add(&mut self, hash: u64, number: usize) -> bool
         ensures added { IsTrue result → IsStored self.old hash number self.new }
         ensures kept { result ≡ false → IsNotStored self.old hash self.new }

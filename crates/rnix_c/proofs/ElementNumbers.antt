@@ -43,7 +43,7 @@ none_there t n e string =
     let there = element_there t n string.0.is_there in
     cc (e, there)
 
--- a token is no string
+-- a token is not a string
 pub token_there : (t : Tree) (n : ℕ) (token : Located) → slice_get (elements_of (located t 0)) n ≡ Some (false, token) → ¬ IsString (located t n)
 token_there t n token e string =
     let here : (false, token) ≡ spot_at t n = spot_is t n (false, token) e in

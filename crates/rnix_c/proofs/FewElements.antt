@@ -6,7 +6,7 @@ use Rattle.{rnix_green.specs.{Forest.element_count, Tree.{Tree, forest_of, items
 use Rattle.{rnix_grammar.specs.{Fault.Fault, Parsed.IsParsed}, rnix_parser.specs.ReadingLaws.{OfRead, elements_in}}
 use Rattle.rnix_c.specs.Elements.{element_of, elements_of, AreFew}
 
--- from the law `size`
+-- the bound follows from the law `size`
 pub few_elements : (text : List ℕ) (tree : Tree) (faults : List Fault) → OfRead text (λ tree faults. elements_in tree ≤ 3 * length text + 3)
     → IsParsed (tokens_of text) tree faults → AreFew text tree
 few_elements text tree faults law p =

@@ -8,12 +8,12 @@ use Rattle.rnix_grammar.specs.{Fault.{Fault}, Parsed.{IsParsed}, AnnotatedForest
 use Rattle.rnix_reparse.proofs.OwnTexts.{own_text}
 use Rattle.rnix_c.specs.{declared.compact.{RnixRange.{RnixRange}, RnixLink.{RnixLink}}, KeptArrays.{HoldTree, HoldParse}}
 
--- what holds of all of two joined lists holds of the first
+-- what holds for all of two concatenated lists holds for the first
 front : {X : Type 0} (P : X → Type 0) (xs ys : List X) → All P (xs ++ ys) → All P xs
 front P [] ys h = All-nil P
 front P (x ∷ xs) ys h = All-cons P x xs (All-head P x (xs ++ ys) h) (front P xs ys (All-tail P x (xs ++ ys) h))
 
--- and of the second
+-- and for the second
 back : {X : Type 0} (P : X → Type 0) (xs ys : List X) → All P (xs ++ ys) → All P ys
 back P [] ys h = h
 back P (x ∷ xs) ys h = back P xs ys (All-tail P x (xs ++ ys) h)
@@ -61,11 +61,11 @@ no_faults (first ∷ others) e = absurd (omega arith)
 
 module _ (text : List ℕ) (ranges : List RnixRange) (links : List RnixLink) (es : List Packed) (h : HoldParse text ranges links 0) (utf8 : IsUtf8 text)
     (short : length text < 2 ^ 32) (is : (tree : Tree) → HoldTree ranges links tree → es ≡ map kept_of (items_of tree)) where
-  -- the arrays hold the stored elements of the tree
+  -- the arrays contain the stored elements of the tree
   pub kept_in_arrays : IsKept h.0 es text
   kept_in_arrays = kept_tree text h.0 h.1.0 es utf8 short h.1.1.1.0.few h.1.1.0 (is h.0 h.1.1.1.0)
 
-  -- so the tree that is made of these elements is the one that the arrays hold
+  -- so the tree that is made from these elements is the tree in the arrays
   pub same_tree : (t : Tree) → t ≡ tree_from es text → t ≡ h.0
   same_tree t e = e ∙ tree_from_kept h.0 es text kept_in_arrays
 

@@ -1,4 +1,4 @@
--- The elements of a tree can be read back from the arrays that hold what was written of them.
+-- The elements of a tree can be read back from the arrays into which they were written.
 use Rattle.std.proofs.Common.{◌≡◌, ℕ, suc, ◌+◌, ◌-◌, ◌<◌, ◌^◌, cond, Bool, true, false, List, [], ◌∷◌, ◌++◌, length, map, take, get_or, Option, Some, None, refl, sym, ap, ◌∙◌, arith}
 use Rattle.std.{specs.Prelude.{IfSome}, proofs.lemmas.{Bool.{ne_eqb}, List.{get_or-map, length-map, map-append, take_more}}}
 use Rattle.rnix_kinds.{specs.{declared.kinds.SyntaxKind.{SyntaxKind}, SyntaxKind.{discriminant_of}}}

@@ -4,7 +4,7 @@ use Rattle.std.specs.Cow.{cow_str_bytes}
 use Rattle.nix_scopes.specs.{Bound.{bound_of, AreFirst}, Scopes.{Bound, number_in}, declared.resolution.Binding.{Binding}}
 use Rattle.rnix_c.specs.{declared.names.RnixBinding.{RnixBinding}, Elements.{number_or_none}, NameCalls.{binding_of, binding_among}}
 
--- what is written of a binding
+-- what is written for a binding
 abbrev pub own_binding : Binding → RnixBinding
 own_binding binding = binding_of binding.first (bound_of binding)
 
@@ -17,7 +17,7 @@ among all (binding ∷ bindings) known =
     ap (λ first. binding_of (number_or_none first) (bound_of binding) ∷ map own_binding bindings) (sym (known 0 binding (omega arith)))
     ∙ ap (λ rest. binding_among all (bound_of binding) ∷ rest) (among all bindings (λ k d l. known (suc k) d (omega (arith, l))))
 
--- what is written of bindings that do so
+-- what is written for bindings that refer to the first ones
 pub all_among : (bindings : List Binding) (bounds : List Bound) → AreFirst bindings → map bound_of bindings ≡ bounds →
     map own_binding bindings ≡ map (binding_among bounds) bounds
 all_among bindings bounds firsts is =

@@ -18,7 +18,7 @@ module _ (n before : ℕ) (parts : Parts Located) (part : InterpolPart (List ℕ
       (drop (suc n) parts)
   both = sym (drop-cons (parts_from 0 parts) n (part_at before part) (omega (arith, length-parts_from 0 parts))) ∙ rest ∙ ap (parts_from before) cut
 
-  -- what is written of the next part is the next element of the list
+  -- what is written for the next part is the next element of the list
   pub next_is : part_at before part ≡ get_or (parts_from 0 parts) n (part_at before part)
   next_is = cc both
 

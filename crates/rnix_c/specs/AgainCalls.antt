@@ -1,4 +1,4 @@
--- How a call for the parse of a text after an edit ends.
+-- The outcome of a call for the parse of a text after an edit.
 use Rattle.std.specs.Prelude.{◌≡◌, ◌⊎◌, ◌≤◌, ◌^◌, ℕ, ℤ, List, length, IsUtf8}
 use Rattle.rnix_green.specs.Tree.{Tree}
 use Rattle.rnix_grammar.specs.Fault.{Fault}
@@ -8,18 +8,18 @@ use Rattle.rnix_reparse.specs.EditedRange.{edited}
 use Rattle.rnix_reparse.specs.EditableRanges.{between, IsEditable}
 use Rattle.rnix_c.specs.Answers.{none_such, too_long, IsRefused}
 
--- why an edit of a text is not made: there is no such range, or the text after it would have 2 ^ 32 bytes or more
+-- why a text is not edited: it has no such range, or the text after the edit would have 2 ^ 32 bytes or more
 abbrev pub IsNoEdit : List ℕ → ℕ → ℕ → List ℕ → ℤ → Type 0
 IsNoEdit text start end replacement answer =
     ((answer ≡ none_such) × ¬ IsEditable text start end)
     ⊎ ((answer ≡ too_long) × IsEditable text start end × (2 ^ 32 ≤ length (edited (between start end) replacement text)))
 
--- why there is no parse of the text after an edit: the text before it or the new bytes are not read, the edit is not made, or memory is refused
+-- why there is no parse of the text after an edit: the old text or the new bytes cannot be read, the edit cannot be made, or memory is refused
 abbrev pub IsEditRefused : List ℕ → ℕ → ℕ → List ℕ → ℤ → Type 0
 IsEditRefused text start end replacement answer =
     (IsRefused text answer ⊎ IsRefused replacement answer) ⊎ IsNoEdit text start end replacement answer
 
--- the call is refused and what it was given is unchanged, or the promise holds of the tree and the errors of the text after the edit
+-- the call is refused and the arrays are unchanged, or the statement holds for the tree and the errors of the text after the edit
 abbrev pub AnswersEdit : List ℕ → ℕ → ℕ → List ℕ → ℤ → Type 0 → (Tree → List Fault → Type 0) → Type 0
 AnswersEdit text start end replacement answer Unchanged Promise =
     (IsEditRefused text start end replacement answer × Unchanged)

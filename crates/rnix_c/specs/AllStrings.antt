@@ -1,4 +1,4 @@
--- What calls write of all strings of a text.
+-- What calls write for all strings of a text.
 use Rattle.std.specs.Prelude.{ℕ, List, [], ◌∷◌, ◌++◌, length, fold, if◌then◌else◌}
 use Rattle.rnix_kinds.specs.declared.kinds.SyntaxKind.TheVariants.{NODE_STRING}
 use Rattle.rnix_green.specs.Equality.{same_kind}
@@ -10,7 +10,7 @@ use Rattle.rnix.specs.StringParts.{normalized_parts}
 use Rattle.rnix_c.specs.declared.all_strings.RnixStringPart.{RnixStringPart}
 use Rattle.rnix_c.specs.StringCalls.{located}
 
--- the parts of some strings, and the joined texts of those that are literals
+-- the parts of some strings, and the concatenated texts of the literal parts
 pub record Found : Type 0 where
   pub parts : List RnixStringPart
   pub text : List ℕ
@@ -18,8 +18,8 @@ pub record Found : Type 0 where
 abbrev pub found : List RnixStringPart → List ℕ → Found
 found parts text = record { parts = parts; text = text }
 
--- one more part of the string that is the element with this number: of a literal its range in the joined text, of an interpolation its range in the text
--- that was read
+-- with one more part of the string with this number: for a literal its range in the concatenated text, for an interpolation its range in the text
+-- that was parsed
 abbrev pub with_part : ℕ → Found → InterpolPart (List ℕ) Located → Found
 with_part string before (Literal text) =
     found (before.parts ++ record { string = string; start = length before.text; end = length (before.text ++ text); is_interpolation = 0 } ∷ [])
@@ -35,6 +35,6 @@ with_node before node = if same_kind NODE_STRING (item_of node).kind then fold (
 abbrev pub with_element : Found → Spot → Found
 with_element before spot = if spot.0 then with_node before spot.1 else before
 
--- what is written of a tree: the normalized parts of its strings, in preorder
+-- what is written for a tree: the normalized parts of its strings, in preorder
 abbrev pub strings_in : Tree → Found
 strings_in tree = fold with_element (found [] []) (elements_of (located tree 0))

@@ -1,4 +1,4 @@
--- What calls return, and what they leave in the arrays that they are given.
+-- What calls return, and what they write into the arrays.
 use Rattle.std.specs.Prelude.{◌≡◌, ◌⊎◌, ◌≤◌, ◌^◌, ℕ, ℤ, pos, negsuc, List, ◌++◌, length, take, drop, IsUtf8}
 use Rattle.rnix_kinds.specs.Lexical.Tokens.{tokens_of}
 use Rattle.rnix_green.specs.Tree.{Tree}
@@ -29,21 +29,21 @@ has_errors = negsuc 4
 abbrev pub different : ℤ
 different = negsuc 5
 
--- the first of some items, as many as there is room for, and then what the rest of the room held before
+-- the first items, as many as fit into the array, followed by what the rest of the array contained before
 abbrev pub filled : {A : Type 0} → List A → List A → List A
 filled items room = take (length room) items ++ drop (length items) room
 
--- the items are written as far as there is room, and their number is returned
+-- the items are written as far as they fit, and their number is returned
 abbrev pub IsWritten : {A : Type 0} → List A → ℤ → List A → List A → Type 0
 IsWritten items answer old new = (answer ≡ pos (length items)) × (new ≡ filled items old)
 
--- why a text is not read: it is not UTF-8, or it is and has 2 ^ 32 bytes or more, or memory is refused
+-- why a text is not read: it is not UTF-8, or it is UTF-8 and has 2 ^ 32 bytes or more, or memory is refused
 abbrev pub IsRefused : List ℕ → ℤ → Type 0
 IsRefused text answer =
     ((answer ≡ not_utf8) × ¬ IsUtf8 text)
     ⊎ (((answer ≡ too_long) × IsUtf8 text × (2 ^ 32 ≤ length text)) ⊎ ((answer ≡ no_memory) × IsUtf8 text))
 
--- the call is refused and what it was given is unchanged, or the promise holds of the tree and the errors of the text
+-- the call is refused and the arrays are unchanged, or the statement holds for the tree and the errors of the text
 abbrev pub Answers : List ℕ → ℤ → Type 0 → (Tree → List Fault → Type 0) → Type 0
 Answers text answer Unchanged Promise =
     (IsRefused text answer × Unchanged)

@@ -1,4 +1,4 @@
--- What calls write of diagnostics.
+-- What calls write for diagnostics.
 use Rattle.std.specs.Prelude.{◌≡◌, ℕ, ℤ, List, [], ◌∷◌, ◌++◌, length, fold, string_bytes}
 use Rattle.rnix_green.specs.Range.{bounds_of}
 use Rattle.rnix_green.specs.Tree.{Tree}
@@ -9,7 +9,7 @@ use Rattle.rnix_c.specs.declared.diagnostics.RnixDiagnostic.{RnixDiagnostic}
 use Rattle.rnix_c.specs.Answers.{filled, IsWritten}
 use Rattle.rnix_c.specs.StringCalls.{located}
 
--- some diagnostics as they are written for C, and their joined messages
+-- diagnostics as they are written for C, and their concatenated messages
 pub record Said : Type 0 where
   pub records : List RnixDiagnostic
   pub messages : List ℕ
@@ -17,7 +17,7 @@ pub record Said : Type 0 where
 abbrev pub said : List RnixDiagnostic → List ℕ → Said
 said records messages = record { records = records; messages = messages }
 
--- with one more diagnostic: its range in the text, and the range of its message in the joined messages
+-- with one more diagnostic: its range in the text, and the range of its message in the concatenated messages
 abbrev pub with_diagnostic : Said → Diagnostic → Said
 with_diagnostic before diagnostic =
     said
@@ -31,7 +31,7 @@ with_diagnostic before diagnostic =
     ∷ [])
     (before.messages ++ string_bytes diagnostic.message)
 
--- what is written of some diagnostics
+-- what is written for some diagnostics
 abbrev pub said_of : List Diagnostic → Said
 said_of all = fold with_diagnostic (said [] []) all
 
@@ -39,7 +39,7 @@ said_of all = fold with_diagnostic (said [] []) all
 abbrev pub AreSaid : Tree → List Fault → List Diagnostic → Type 0
 AreSaid tree faults all = AreShown (located tree 0) faults all
 
--- diagnostics that show the errors of a tree are written, and their joined messages, and how many bytes these have
+-- diagnostics that show the errors of a tree are written, together with their concatenated messages and the length of these
 abbrev pub WritesDiagnostics : Tree → List Fault → ℤ → List RnixDiagnostic → List RnixDiagnostic → List ℕ → List ℕ → ℕ → Type 0
 WritesDiagnostics tree faults answer old new was is count =
     (all : List Diagnostic) × AreSaid tree faults all × IsWritten (said_of all).records answer old new

@@ -4,12 +4,12 @@ use Rattle.rnix_kinds.specs.SyntaxKind.{discriminant_of}
 use Rattle.rnix_green.specs.Tree.{Tree, Item, items_of}
 use Rattle.rnix_c.specs.declared.elements.RnixElement.{RnixElement}
 
--- the number of an element; 2 ^ 64 - 1 where there is none
+-- the number of an element, or 2 ^ 64 - 1 if there is none
 abbrev pub number_or_none : Option ℕ → ℕ
 number_or_none None = 2 ^ 64 - 1
 number_or_none (Some number) = number
 
--- what is written of an element
+-- what is written for an element
 abbrev pub element_of : Item → RnixElement
 element_of i = record {
   start = i.start;
@@ -20,7 +20,7 @@ element_of i = record {
   is_token = cond i.is_node 0 1;
 }
 
--- what is written of a tree: of each element, in preorder
+-- what is written for a tree: each element, in preorder
 abbrev pub elements_of : Tree → List RnixElement
 elements_of tree = map element_of (items_of tree)
 

@@ -7,7 +7,7 @@ use Rattle.rnix_grammar.specs.Fault.{Fault, unexpected_at, extra, unwanted, doub
 use Rattle.rnix_c.specs.declared.errors.RnixError.{RnixError}
 use Rattle.rnix_c.specs.Answers.{filled}
 
--- the numbers of the first 16 of some kinds, in their order, and 255 in the places that are left
+-- the numbers of the first 16 of the kinds, in their order; the remaining places contain 255
 abbrev pub wanted_of : List SyntaxKind → List ℕ
 wanted_of kinds = filled (map discriminant_of kinds) (replicate 16 255)
 
@@ -23,7 +23,7 @@ unplaced variant = record { start = 2 ^ 64 - 1; end = 2 ^ 64 - 1; wanted = none_
 abbrev pub placed : ℕ → Extent → RnixError
 placed variant range = record { start = range.start; end = range.end; wanted = none_wanted; variant = variant; found = 2 ^ 32 - 1 }
 
--- what is written of an error
+-- what is written for an error
 abbrev pub error_of : Fault → RnixError
 error_of (unexpected_at range) = placed 0 range
 error_of (extra range) = placed 1 range
@@ -34,6 +34,6 @@ error_of (unexpected_eof_wanted kinds) = record { start = 2 ^ 64 - 1; end = 2 ^ 
 error_of (duplicated_args range name) = placed 6 range
 error_of too_deep = unplaced 7
 
--- what is written of some errors
+-- what is written for some errors
 abbrev pub errors_of : List Fault → List RnixError
 errors_of faults = map error_of faults

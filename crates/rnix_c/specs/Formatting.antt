@@ -1,18 +1,18 @@
--- What calls write of a formatted text.
+-- What calls write for a formatted text.
 use Rattle.std.specs.Prelude.{◌≡◌, ◌⊎◌, ℕ, ℤ, List, IsUtf8}
 use Rattle.nix_formatting.specs.Reindented.{IsReformatted}
 use Rattle.nix_formatting.specs.Formatted.{IsWithErrors, IsWithoutErrors}
 use Rattle.rnix_c.specs.Answers.{no_memory, has_errors, different, IsRefused, IsWritten}
 
--- why no new text is written: memory is refused, or the text has errors, or it has none, but the new text would not be one that may be written
+-- why no new text is written: memory is refused, the text has errors, or it has none but formatting it would change more than is allowed
 abbrev pub IsUnformatted : List ℕ → ℤ → Type 0
 IsUnformatted text answer = (answer ≡ no_memory) ⊎ (((answer ≡ has_errors) × IsWithErrors text) ⊎ ((answer ≡ different) × IsWithoutErrors text))
 
--- a text that differs from this one only in white space and in the indentation of strings is written, or nothing
+-- a text that differs from this one only in white space and in the indentation of strings is written, or nothing is
 abbrev pub WritesFormat : List ℕ → ℤ → List ℕ → List ℕ → Type 0
 WritesFormat text answer old new =
     (IsUnformatted text answer × (new ≡ old)) ⊎ ((made : List ℕ) × IsReformatted text made × IsWritten made answer old new)
 
--- how a call for the formatted text ends
+-- the outcome of a call for the formatted text
 abbrev pub AnswersFormat : List ℕ → ℤ → List ℕ → List ℕ → Type 0
 AnswersFormat text answer old new = (IsRefused text answer × (new ≡ old)) ⊎ (IsUtf8 text × WritesFormat text answer old new)

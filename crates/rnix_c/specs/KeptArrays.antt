@@ -1,4 +1,4 @@
--- The parse of a text as two arrays and the number of errors keep it, as they were written for C.
+-- The parse of a text as stored in two arrays, which were written for C, and the number of errors.
 use Rattle.std.specs.Prelude.{◌≡◌, ◌==◌, ◌-◌, ◌^◌, ℕ, suc, cond, List, length}
 use Rattle.rnix_kinds.specs.declared.kinds.SyntaxKind.{SyntaxKind}
 use Rattle.rnix_kinds.specs.Lexical.Tokens.{tokens_of}
@@ -11,25 +11,25 @@ use Rattle.rnix_c.specs.declared.compact.RnixRange.{RnixRange}
 use Rattle.rnix_c.specs.declared.compact.RnixLink.{RnixLink}
 use Rattle.rnix_c.specs.CompactElements.{ranges_of, links_of, HaveShortNumbers}
 
--- the arrays hold what is written of the tree
+-- the arrays contain what is written for the tree
 pub record HoldTree (ranges : List RnixRange) (links : List RnixLink) (tree : Tree) : Type 0 where
   pub few : HaveShortNumbers tree
   pub ranges_are : ranges ≡ ranges_of tree
   pub links_are : links ≡ links_of tree
 
--- the arrays hold what is written of the tree of the text, which has so many errors
+-- the arrays contain what is written for the tree of the text, which has this number of errors
 abbrev pub HoldParse : List ℕ → List RnixRange → List RnixLink → ℕ → Type 0
 HoldParse text ranges links errors =
     (tree : Tree) × ((faults : List Fault) × (IsParsed (tokens_of text) tree faults × (HoldTree ranges links tree × (errors ≡ length faults))))
 
--- the number of a parent as a tree keeps it: 0 for the root, which has none
+-- the number of a parent as a tree stores it: 0 for the root, which has none
 abbrev pub kept_parent : ℕ → ℕ
 kept_parent parent = cond (parent == 2 ^ 32 - 1) 0 parent
 
--- the size of an element as a tree keeps it: 0 for a token, and for a node the number of elements inside it, and one more
+-- the size of an element as a tree stores it: 0 for a token; for a node one more than the number of elements inside it
 abbrev pub kept_size : ℕ → ℕ → ℕ
 kept_size is_token inside = cond (is_token == 0) (suc inside) 0
 
--- an element as a tree keeps it, by what is written of it
+-- an element as a tree stores it, given what is written for it
 abbrev pub kept_by : SyntaxKind → RnixRange → RnixLink → Packed
 kept_by kind range link = packed kind range.start (kept_parent link.parent) (kept_size link.is_token link.inside)

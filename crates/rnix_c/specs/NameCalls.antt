@@ -1,4 +1,4 @@
--- What calls write of bindings and references.
+-- What calls write for bindings and references.
 use Rattle.std.specs.Prelude.{◌≡◌, ℕ, ℤ, cond, List, map, length}
 use Rattle.rnix_kinds.specs.SyntaxKind.{discriminant_of}
 use Rattle.rnix_green.specs.Tree.{Tree, Located, item_of}
@@ -9,7 +9,7 @@ use Rattle.rnix_c.specs.Answers.{filled, IsWritten}
 use Rattle.rnix_c.specs.Elements.{number_or_none}
 use Rattle.rnix_c.specs.StringCalls.{located}
 
--- what is written of a binding, where the first binding of its name in its scope has this number
+-- what is written for a binding, where the first binding of its name in its scope has this number
 abbrev pub binding_of : ℕ → Bound → RnixBinding
 binding_of first bound = record {
   start = (item_of bound.node).start;
@@ -21,7 +21,7 @@ binding_of first bound = record {
   scope_kind = discriminant_of (item_of bound.scope).kind;
 }
 
--- what is written of a reference
+-- what is written for a reference
 abbrev pub reference_of : Resolved → RnixReference
 reference_of name = record {
   start = (item_of name.node).start;
@@ -32,19 +32,19 @@ reference_of name = record {
   is_open = cond name.is_open 1 0;
 }
 
--- what is written of a binding among others
+-- what is written for a binding among others
 abbrev pub binding_among : List Bound → Bound → RnixBinding
 binding_among bindings bound = binding_of (number_or_none (number_in bindings bound.text bound.scope)) bound
 
--- what is written of the bindings inside a node
+-- what is written for the bindings inside a node
 abbrev pub bindings_written : Located → List RnixBinding
 bindings_written root = map (binding_among (bindings_in root)) (bindings_in root)
 
--- what is written of the references inside a node
+-- what is written for the references inside a node
 abbrev pub references_written : Located → List RnixReference
 references_written root = map reference_of (resolved_in root)
 
--- the bindings and the references of a tree are written, and how many references there are
+-- the bindings and the references of a tree are written, together with the number of references
 abbrev pub WritesNames : Tree → ℤ → List RnixBinding → List RnixBinding → List RnixReference → List RnixReference → ℕ → Type 0
 WritesNames tree answer old new was is count =
     IsWritten (bindings_written (located tree 0)) answer old new

@@ -1,4 +1,4 @@
--- What calls write of strings.
+-- What calls write for strings.
 use Rattle.std.specs.Prelude.{◌≡◌, ◌⊎◌, ℕ, ℤ, ◌+◌, ◌-◌, ◌^◌, min, List, [], ◌∷◌, length}
 use Rattle.std.specs.List.{flat_map}
 use Rattle.rnix_kinds.specs.declared.kinds.SyntaxKind.TheVariants.{NODE_STRING}
@@ -10,11 +10,11 @@ use Rattle.rnix.specs.StringParts.{normalized_parts}
 use Rattle.rnix_c.specs.declared.strings.RnixPart.{RnixPart}
 use Rattle.rnix_c.specs.Answers.{none_such, IsWritten}
 
--- the element of a number
+-- the element with a number
 abbrev pub located : Tree → ℕ → Located
 located tree number = record { tree = tree; number = number }
 
--- the element is there, and is a node of the kind of strings
+-- the element exists and is a string
 abbrev pub IsString : Located → Type 0
 IsString element = IsNodeAt element × ((item_of element).kind ≡ NODE_STRING)
 
@@ -29,25 +29,25 @@ abbrev pub literal_text : InterpolPart (List ℕ) Located → List ℕ
 literal_text (Literal text) = text
 literal_text (Interpolation node) = []
 
--- the texts of a string's normalized parts, joined
+-- the concatenated texts of a string's normalized parts
 abbrev pub string_text : Located → List ℕ
 string_text string = flat_map literal_text (normalized_parts string)
 
--- where the string's text ends after a part, where it ends at an offset before it; no offset is above the largest of 64 bits
+-- the end of a string's text after one more part, given its end before the part; an offset is at most the largest number of 64 bits
 abbrev pub end_after : ℕ → InterpolPart (List ℕ) Located → ℕ
 end_after before (Literal text) = min (before + length text) (2 ^ 64 - 1)
 end_after before (Interpolation node) = before
 
--- what is written of a part: of a literal its range in the string's text, of an interpolation its range in the text that was read
+-- what is written for a part: for a literal its range in the string's text, for an interpolation its range in the text that was parsed
 abbrev pub part_at : ℕ → InterpolPart (List ℕ) Located → RnixPart
 part_at before (Literal text) = record { start = before; end = end_after before (Literal text); is_interpolation = 0 }
 part_at before (Interpolation node) = record { start = (item_of node).start; end = (item_of node).end; is_interpolation = 1 }
 
--- what is written of some parts, where the string's text ends at an offset before them
+-- what is written for some parts, given the end of the string's text before them
 abbrev pub parts_from : ℕ → Parts Located → List RnixPart
 parts_from before [] = []
 parts_from before (part ∷ parts) = part_at before part ∷ parts_from (end_after before part) parts
 
--- what is written of a string: of each of its normalized parts
+-- what is written for a string: each of its normalized parts
 abbrev pub parts_written : Located → List RnixPart
 parts_written string = parts_from 0 (normalized_parts string)

@@ -1,4 +1,4 @@
-//! The parse of a text after an edit, from the arrays that keep the parse of the text before.
+//! The parse of a text after an edit, from the arrays that contain the parse of the text before it.
 
 ghost use Rattle.std.specs.Prelude.{◌≡◌, ◌≤◌, ◌<◌, ◌^◌, length, IfOk, IfErr, IsUtf8};
 ghost use Rattle.rnix_kinds.specs.Lexical.Tokens.{tokens_of};
@@ -23,10 +23,10 @@ use rnix::{Parse, Root, TextRange};
 use rnix_reparse::{editable_range, edited_text, reparse};
 use std::alloc::{AllocError, Global};
 
-// The most bytes that a text has, and the most elements of a tree.
+// The largest number of bytes of a text, and of elements of a tree.
 const LONGEST: usize = u32::MAX as usize;
 
-// Parses the text after an edit, if the text before has no errors.
+// Parses the text after an edit, if the text before it has no errors.
 fn parse_edit(
     alloc: Global,
     text: &str,
@@ -60,7 +60,7 @@ fn parse_whole(
     Ok(read)
 }
 
-// Parses the text after an edit; as a whole if the text before has errors.
+// Parses the text after an edit: as a whole if the text before it has errors.
 fn parse_edited(
     alloc: Global,
     text: &str,
@@ -82,7 +82,7 @@ fn parse_edited(
     }
 }
 
-// The range of an edit, or why it cannot be made.
+// Returns the range of an edit, or the reason why the edit cannot be made.
 fn checked_range(text: &str, start: usize, end: usize, replacement: &str) -> Result<TextRange, i64>
     ensures found { IfOk result (λ range. (bounds_of range ≡ between start end) × IsEditable text.now start end) }
     ensures short { IfOk result (λ _. length (edited (between start end) replacement.now text.now) < 2 ^ 32) }
@@ -98,7 +98,7 @@ fn checked_range(text: &str, start: usize, end: usize, replacement: &str) -> Res
     Ok(range)
 }
 
-// Parses the text after an edit, or returns why it is refused.
+// Parses the text after an edit, or returns the reason for refusing it.
 fn parsed_again(
     alloc: Global,
     text: &[u8],
@@ -130,9 +130,9 @@ fn parsed_again(
     Ok(read)
 }
 
-/// The elements, in two arrays, and the errors of a text after an edit that replaces the bytes from `start` to `end`: how many elements there are, as
-/// `rnix_parse_compact` returns it for the new text. The arrays `ranges` and `links` and the number of errors are what that call, or this one, wrote
-/// for the text before.
+/// Writes the elements, in two arrays, and the errors of a text after an edit that replaces the bytes from `start` to `end`. Returns the number of elements,
+/// as `rnix_parse_compact` does for the new text. The arrays `ranges` and `links` and the number of errors are what that function, or this one, wrote
+/// for the text before the edit.
 #[unsafe(no_mangle)]
 pub extern "C" fn rnix_parse_again(
     alloc: Global,

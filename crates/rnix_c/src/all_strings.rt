@@ -10,7 +10,7 @@ use rnix::ast::{AstNode, InterpolPart, Str};
 use rnix::{GreenNode, NodeOrToken, SyntaxNode};
 use std::alloc::{AllocError, Global};
 
-/// A part of a string: the string's number among the elements, and a range of the joined text, or that of an interpolation.
+/// A part of a string: the string's number among the elements, and a range of the concatenated text, or that of an interpolation.
 #[repr(C)]
 #[derive(Clone, Copy)]
 pub struct RnixStringPart {
@@ -20,7 +20,7 @@ pub struct RnixStringPart {
     pub is_interpolation: u32,
 }
 
-// Adds a part of the string of this number, and its text.
+// Adds a part of the string with this number, and its text.
 fn add_part(
     string: usize,
     part: &InterpolPart<'_, String>,
@@ -54,7 +54,7 @@ fn add_part(
     Ok(())
 }
 
-// Adds the parts of the string of this number.
+// Adds the parts of the string with this number.
 fn add_parts(
     string: usize,
     added: &[InterpolPart<'_, String>],
@@ -70,7 +70,7 @@ fn add_parts(
     Ok(())
 }
 
-// Adds the parts of the node of this number, if it is a string.
+// Adds the parts of the node with this number, if it is a string.
 fn add_string<'t>(
     alloc: Global,
     number: usize,
@@ -89,7 +89,7 @@ fn add_string<'t>(
     add_parts(number, &added, parts, text)
 }
 
-// Returns the parts of all strings of a tree, and their joined text.
+// Returns the parts of all strings of a tree, and their concatenated text.
 fn strings_of(alloc: Global, green: &GreenNode) -> Result<(Vec<RnixStringPart>, String), AllocError>
     ensures { IfOk result (λ all. found all.0.items (string_bytes all.1) ≡ strings_in green.now) }
 {
@@ -105,7 +105,7 @@ fn strings_of(alloc: Global, green: &GreenNode) -> Result<(Vec<RnixStringPart>, 
     Ok((parts, text))
 }
 
-/// The parts of all strings of a text: how many there are. Their text is written too, and its length in bytes.
+/// Writes the parts of all strings of a text, their text, and the length of that in bytes. Returns the number of parts.
 #[unsafe(no_mangle)]
 pub extern "C" fn rnix_strings(
     alloc: Global,

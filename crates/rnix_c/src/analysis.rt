@@ -1,4 +1,4 @@
-//! The names and the diagnostics of a text, by one parse.
+//! The names and the diagnostics of a text, from one parse.
 
 ghost use Rattle.std.specs.Prelude.{◌≡◌, pos};
 ghost use Rattle.rnix_c.specs.Answers.{Answers};
@@ -11,8 +11,8 @@ use crate::names::{RnixBinding, RnixReference, write_names};
 use nix_scopes::resolve;
 use std::alloc::Global;
 
-/// The bindings, the references and the diagnostics of a text: how many bindings there are. The numbers of references and diagnostics, the
-/// messages of these, and how many bytes they have, are written too.
+/// Writes the bindings, the references and the diagnostics of a text, the numbers of references and diagnostics, the messages of the diagnostics, and the
+/// length of these in bytes. Returns the number of bindings.
 #[unsafe(no_mangle)]
 pub extern "C" fn rnix_analysis(
     alloc: Global,

@@ -1,4 +1,4 @@
-//! What calls return: how many things there are, or why a call is refused.
+//! The results of calls: the number of items, or the reason why a call is refused.
 
 ghost use Rattle.std.specs.Prelude.{◌≡◌, ◌<◌, ◌^◌, length, map, IfOk, IfErr, IsUtf8};
 ghost use Rattle.rnix_kinds.specs.Lexical.Tokens.{tokens_of};
@@ -15,7 +15,7 @@ use std::alloc::Global;
 /// The text is not UTF-8.
 pub const NOT_UTF8: i64 = -1;
 
-/// Memory is refused.
+/// An allocation failed.
 pub const NO_MEMORY: i64 = -2;
 
 /// There is no such kind, error, diagnostic, string or unit of columns.
@@ -36,7 +36,7 @@ pub const NO_NUMBER: u64 = u64::MAX;
 /// An absent kind.
 pub const NO_KIND: u32 = u32::MAX;
 
-/// Returns the text, or why it cannot be parsed.
+/// Returns the text, or the reason why it cannot be parsed.
 pub fn checked<'t>(text: &'t [u8]) -> Result<&'t str, i64>
     ensures utf8 { IfOk result (λ _. IsUtf8 text.now) }
     ensures same { IfOk result (λ checked. checked.now ≡ text.now) }
@@ -52,7 +52,7 @@ pub fn checked<'t>(text: &'t [u8]) -> Result<&'t str, i64>
     Ok(checked)
 }
 
-/// Parses a text. Returns its tree and its errors, or why it is refused.
+/// Parses a text. Returns its tree and its errors, or the reason for refusing it.
 #[tactic(auto, using(crate::proofs::FewElements::few_elements))]
 pub fn parsed(alloc: Global, text: &[u8]) -> Result<(GreenNode, Vec<ParseError>), i64>
     ensures utf8 { IfOk result (λ _. IsUtf8 text.now) }
@@ -81,7 +81,7 @@ pub fn parse_of(alloc: Global, text: &[u8]) -> Result<Parse, i64>
     }
 }
 
-/// Writes the first items, as many as there is room for.
+/// Writes the first items, as many as fit into the array.
 pub fn fill<T: Copy>(items: &[T], room: &mut [T])
     ensures { room.new ≡ filled items.now room.old }
 {
@@ -92,7 +92,7 @@ pub fn fill<T: Copy>(items: &[T], room: &mut [T])
     }
 }
 
-/// Writes the text's first bytes, as many as there is room for, and returns how many it has.
+/// Writes the first bytes of the text, as many as fit into the array, and returns the length of the text.
 pub fn written(text: &str, room: &mut [u8]) -> i64
     ensures { IsWritten text.now result room.old room.new }
 {

@@ -1,4 +1,4 @@
-//! The elements of a tree in 20 bytes each: their ranges, and the rest.
+//! The elements of a tree in 20 bytes each: their ranges and their links.
 
 ghost use Rattle.std.specs.Prelude.{◌≡◌, ◌<◌, ◌^◌, length, map, set, IfSome};
 ghost use Rattle.rnix_green.specs.Forest.{text_of};
@@ -27,7 +27,7 @@ pub struct RnixRange {
     pub end: u32,
 }
 
-/// A node or a token without its range.
+/// A node or a token, without its range.
 #[repr(C)]
 #[derive(Clone, Copy)]
 pub struct RnixLink {
@@ -74,7 +74,7 @@ fn link_of(element: Element) -> RnixLink
     }
 }
 
-// Writes an item at its number, if there is room for it.
+// Writes an item at its index, if it fits into the array.
 #[tactic(auto, using(std::proofs::lemmas::List::set_past))]
 fn put<T: Copy>(item: T, number: usize, room: &mut [T])
     ensures { room.new ≡ set room.old number item }
@@ -84,7 +84,7 @@ fn put<T: Copy>(item: T, number: usize, room: &mut [T])
     }
 }
 
-// Writes the first elements of a tree that has so many.
+// Writes the first elements of a tree with this number of elements.
 fn fill(green: &GreenNode, count: usize, ranges: &mut [RnixRange], links: &mut [RnixLink])
     requires count { count ≡ length (items_of green.now) }
     requires few { count < 2 ^ 32 }
@@ -99,7 +99,7 @@ fn fill(green: &GreenNode, count: usize, ranges: &mut [RnixRange], links: &mut [
     }
 }
 
-// Writes the elements and the errors, and the number of errors, and returns how many elements there are.
+// Writes the elements, the errors and the number of errors, and returns the number of elements.
 fn write_compact(
     green: &GreenNode,
     faults: &[ParseError],
@@ -122,7 +122,7 @@ fn write_compact(
     count as i64
 }
 
-/// Writes the elements and the errors of a parse, and the number of errors, and returns how many elements there are.
+/// Writes the elements, the errors and the number of errors of a parse, and returns the number of elements.
 pub fn write_parse(
     read: &Parse,
     ranges: &mut [RnixRange],
@@ -147,8 +147,8 @@ pub fn write_parse(
     )
 }
 
-/// The elements of a text in two arrays, and its errors: how many elements there are, at most three for each byte and three more, and fewer than
-/// 2^32. The number of errors is written too.
+/// Writes the elements of a text into two arrays, its errors, and their number. Returns the number of elements: at most three for each byte and three more,
+/// and less than 2^32.
 #[unsafe(no_mangle)]
 pub extern "C" fn rnix_parse_compact(
     alloc: Global,

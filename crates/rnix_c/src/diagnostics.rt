@@ -10,7 +10,7 @@ use nix_diagnostics::{Diagnostic, diagnostics};
 use rnix::Parse;
 use std::alloc::{AllocError, Global};
 
-/// A diagnostic: a range of the text, and the range of its message in the joined messages.
+/// A diagnostic: a range of the text, and the range of its message in the concatenated messages.
 #[repr(C)]
 #[derive(Clone, Copy)]
 pub struct RnixDiagnostic {
@@ -40,7 +40,7 @@ fn add(
     Ok(())
 }
 
-// Returns the diagnostics as numbers, and their joined messages.
+// Returns the diagnostics as numbers, and their concatenated messages.
 fn said_of(
     alloc: Global,
     diagnostics: &[Diagnostic],
@@ -55,7 +55,7 @@ fn said_of(
     Ok((records, messages))
 }
 
-/// Returns the diagnostics of a text as numbers, and their joined messages.
+/// Returns the diagnostics of a text as numbers, and their concatenated messages.
 pub fn described(alloc: Global, read: &Parse) -> Result<(Vec<RnixDiagnostic>, String), AllocError>
     ensures { IfOk result (λ made. (all : List Worded) × AreSaid read.now.tree read.now.faults all
         × (said made.0.items (string_bytes made.1) ≡ said_of all)) }
@@ -64,7 +64,7 @@ pub fn described(alloc: Global, read: &Parse) -> Result<(Vec<RnixDiagnostic>, St
     said_of(alloc, &all)
 }
 
-/// Writes the first diagnostics and messages, as many as there is room for, and how many bytes the messages have.
+/// Writes the first diagnostics and messages, as many as fit into the arrays, and the length of the messages in bytes.
 pub fn write_diagnostics(
     records: &[RnixDiagnostic],
     messages: &str,
@@ -81,7 +81,7 @@ pub fn write_diagnostics(
     *buffer_len = messages.len() as u64;
 }
 
-/// The diagnostics of a text: how many there are. Their messages are written too, and how many bytes these have.
+/// Writes the diagnostics of a text, their messages, and the length of these in bytes. Returns the number of diagnostics.
 #[unsafe(no_mangle)]
 pub extern "C" fn rnix_diagnostics(
     alloc: Global,

@@ -46,7 +46,7 @@ fn record_of(element: Element) -> RnixElement
     }
 }
 
-// Writes the first elements of a tree that has so many.
+// Writes the first elements of a tree with this number of elements.
 fn fill(green: &GreenNode, count: usize, room: &mut [RnixElement])
     requires { count ≡ length (items_of green.now) }
     ensures { room.new ≡ filled (elements_of green.now) room.old }
@@ -56,7 +56,7 @@ fn fill(green: &GreenNode, count: usize, room: &mut [RnixElement])
     }
 }
 
-/// Writes the first elements of the tree, as many as there is room for, and returns how many it has.
+/// Writes the first elements of the tree, as many as fit into the array, and returns their number in the tree.
 pub fn written(green: &GreenNode, room: &mut [RnixElement]) -> i64
     ensures { IsWritten (elements_of green.now) result room.old room.new }
 {

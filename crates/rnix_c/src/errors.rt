@@ -9,13 +9,13 @@ ghost use Rattle.rnix_c.specs.Errors.{unplaced, placed, wanted_of, error_of, err
 use crate::answers::{NO_KIND, NO_NUMBER};
 use rnix::{ParseError, SyntaxKind, TextRange};
 
-/// How many wanted kinds an error has room for.
+/// The number of expected kinds that an error can contain.
 const WANTED_ROOM: usize = 16;
 
-/// A wanted kind that is absent.
+/// The number in place of an absent expected kind.
 const NOT_WANTED: u8 = u8::MAX;
 
-/// An error: its variant and range, the kinds that are wanted, in rnix's order, and the kind of the token that was found.
+/// An error: its variant and range, the expected kinds, in rnix's order, and the kind of the token that was found.
 #[repr(C)]
 #[derive(Clone, Copy)]
 pub struct RnixError {
@@ -26,7 +26,7 @@ pub struct RnixError {
     pub found: u32,
 }
 
-// Returns an error of this variant and no range.
+// Returns an error with this variant and no range.
 fn unplaced(variant: u32) -> RnixError
     ensures { result ≡ unplaced variant }
 {
@@ -39,7 +39,7 @@ fn unplaced(variant: u32) -> RnixError
     }
 }
 
-// Returns an error of this variant and range.
+// Returns an error with this variant and range.
 fn placed(variant: u32, range: TextRange) -> RnixError
     ensures { result ≡ placed variant (bounds_of range) }
 {
@@ -50,7 +50,7 @@ fn placed(variant: u32, range: TextRange) -> RnixError
     }
 }
 
-// Returns the numbers of the wanted kinds.
+// Returns the numbers of the expected kinds.
 fn wanted_of(kinds: &[SyntaxKind]) -> [u8; 16]
     ensures { result ≡ wanted_of kinds.now }
 {
@@ -84,7 +84,7 @@ fn record_of(error: &ParseError) -> RnixError
     }
 }
 
-/// Writes the first errors, as many as there is room for.
+/// Writes the first errors, as many as fit into the array.
 pub fn fill(errors: &[ParseError], room: &mut [RnixError])
     ensures { room.new ≡ filled (errors_of (map fault_of errors.now)) room.old }
 {

@@ -16,7 +16,7 @@ const NO_FIX: i64 = 0;
 /// There is a fix.
 const ONE_FIX: i64 = 1;
 
-/// A fix: the range that it replaces, and how many bytes the new text has.
+/// A fix: the range that it replaces, and the length of the new text in bytes.
 #[repr(C)]
 #[derive(Clone, Copy)]
 pub struct RnixFix {
@@ -25,7 +25,7 @@ pub struct RnixFix {
     pub text_len: u64,
 }
 
-// Writes a fix, and as many bytes of its text as there is room for.
+// Writes a fix, and as many bytes of its text as fit into the array.
 fn write_fix(found: &Fix, fix: &mut RnixFix, buffer: &mut [u8])
     ensures fix { fix.new ≡ fix_written found.now }
     ensures text { buffer.new ≡ filled (string_bytes found.now.text) buffer.old }
@@ -38,7 +38,7 @@ fn write_fix(found: &Fix, fix: &mut RnixFix, buffer: &mut [u8])
     };
 }
 
-// Writes the fix of a diagnostic, if there is one, and returns how many there are.
+// Writes the fix of a diagnostic, if there is one, and returns the number of fixes: 1 or 0.
 fn write_fix_of(
     alloc: Global,
     read: &Parse,
@@ -60,7 +60,7 @@ fn write_fix_of(
     }
 }
 
-// Returns the same for the diagnostic of this number.
+// Writes the fix of the diagnostic with this number.
 fn write_fix_at(
     alloc: Global,
     read: &Parse,
@@ -81,7 +81,7 @@ fn write_fix_at(
     }
 }
 
-// Returns the same for a text.
+// Writes the fix of the diagnostic with this number, given a text.
 fn write_fix_in(
     alloc: Global,
     text: &str,
@@ -97,7 +97,7 @@ fn write_fix_in(
     }
 }
 
-/// The fix of the diagnostic of this number: how many there are, 1 or 0.
+/// Writes the fix of the diagnostic with this number. Returns the number of fixes: 1 or 0.
 #[unsafe(no_mangle)]
 pub extern "C" fn rnix_fix(
     alloc: Global,

@@ -1,4 +1,4 @@
-//! The tree of a text, from the arrays that hold its elements.
+//! The tree of a text, from the arrays that contain its elements.
 
 ghost use Rattle.std.specs.Prelude.{◌≡◌, ◌<◌, ◌^◌, [], ◌∷◌, ◌++◌, length, map, IfOk, IfErr, OnOk, IsUtf8};
 ghost use Rattle.rnix_kinds.specs.declared.kinds.SyntaxKind.{SyntaxKind};
@@ -19,7 +19,7 @@ use rnix::{GreenNode, Parse, SyntaxKind};
 use rnix_green::ElementList;
 use std::alloc::{AllocError, Global};
 
-// The kind of a number; where no kind has it, one of them.
+// Returns the kind with a number, or some kind if no kind has the number.
 fn kind_of(number: u16) -> SyntaxKind
     ensures { (kind : SyntaxKind) → discriminant_of kind ≡ number → result ≡ kind }
 {
@@ -29,7 +29,7 @@ fn kind_of(number: u16) -> SyntaxKind
     }
 }
 
-// The number of a parent; 0 for the root.
+// Returns the number of a parent, or 0 for the root.
 fn kept_parent(parent: u32) -> usize
     ensures { result ≡ kept_parent parent }
 {
@@ -40,7 +40,7 @@ fn kept_parent(parent: u32) -> usize
     }
 }
 
-// The size of an element: 0 for a token.
+// Returns the size of an element, which is 0 for a token.
 fn kept_size(link: RnixLink) -> usize
     ensures { result ≡ kept_size link.is_token link.inside }
 {
@@ -59,7 +59,7 @@ fn add(list: &mut ElementList, range: RnixRange, link: RnixLink) -> Result<(), A
     list.push(kind_of(link.kind), range.start as usize, parent, size)
 }
 
-// The elements that the arrays hold.
+// Returns the elements in the arrays.
 fn elements_of(
     alloc: Global,
     ranges: &[RnixRange],
@@ -75,7 +75,7 @@ fn elements_of(
     Ok(list)
 }
 
-// The tree of a text without errors, from the arrays that hold its elements.
+// Returns the tree of a text without errors, from the arrays that contain its elements.
 fn tree_of(
     alloc: Global,
     text: &str,
@@ -92,7 +92,7 @@ fn tree_of(
     Ok(green)
 }
 
-/// The parse of a text without errors, from the arrays that hold its elements. Nothing is parsed.
+/// Returns the parse of a text without errors, from the arrays that contain its elements. Nothing is parsed.
 pub fn parse_kept(
     alloc: Global,
     text: &str,
@@ -108,7 +108,7 @@ pub fn parse_kept(
     Ok(Parse::without_errors(alloc, green))
 }
 
-/// The parse of a text, from what is kept of its parse: from the arrays if the text has no errors, and else by parsing it. Or why it is refused.
+/// Returns the parse of a text, given what was stored of it: from the arrays if the text has no errors, otherwise by parsing it. Or returns why it is refused.
 pub fn parse_of_kept(
     alloc: Global,
     text: &[u8],

@@ -1,4 +1,4 @@
-//! The kinds by their numbers.
+//! Kinds by number.
 
 ghost use Rattle.std.specs.Prelude.{◌≡◌, ◌≤◌, IfSome, IfNone};
 ghost use Rattle.rnix_kinds.specs.SyntaxKind.{discriminant_of, kind_count};
@@ -7,7 +7,7 @@ ghost use Rattle.rnix_c.specs.KindCalls.{NamesKind, FindsKind};
 use crate::answers::{NONE_SUCH, written};
 use rnix::SyntaxKind;
 
-// Returns the kind of this number.
+// Returns the kind with this number.
 fn kind_at(number: u32) -> Option<SyntaxKind>
     ensures found { IfSome result (λ kind. discriminant_of kind ≡ number) }
     ensures missing { IfNone result (kind_count ≤ number) }
@@ -15,7 +15,7 @@ fn kind_at(number: u32) -> Option<SyntaxKind>
     SyntaxKind::from_raw(u16::try_from(number).ok()?)
 }
 
-/// The name of a kind: how many bytes it has.
+/// Writes the name of a kind, and returns its length in bytes.
 #[unsafe(no_mangle)]
 pub extern "C" fn rnix_kind_name(kind: u32, room: &mut [u8]) -> i64
     ensures { NamesKind kind result room.old room.new }
@@ -26,7 +26,7 @@ pub extern "C" fn rnix_kind_name(kind: u32, room: &mut [u8]) -> i64
     }
 }
 
-/// The number of the kind that has the name.
+/// Returns the number of the kind with this name.
 #[unsafe(no_mangle)]
 pub extern "C" fn rnix_kind_of_name(name: &[u8]) -> i64
     ensures { FindsKind name.now result }

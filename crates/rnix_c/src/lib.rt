@@ -23,7 +23,7 @@ mod strings;
 mod tokens;
 mod tree;
 
-/// The number of this interface. It changes where a function, a struct or the number of a kind does.
+/// Returns the version of this interface. It changes whenever a function, a struct or the number of a kind changes.
 #[unsafe(no_mangle)]
 pub extern "C" fn rnix_version() -> u32
     ensures { result ≡ 6 }

@@ -1,4 +1,4 @@
-//! The texts of errors.
+//! The messages of errors.
 
 ghost use Rattle.std.specs.Prelude.{◌≡◌, ◌⊎◌, map, IfOk, string_bytes};
 ghost use Rattle.rnix_grammar.specs.Fault.{fault_of, fault_text};
@@ -10,7 +10,7 @@ use rnix::ParseError;
 use std::alloc::Global;
 use std::fmt::{self, Write};
 
-// Writes an error's text, and returns how many bytes it has.
+// Writes an error's message, and returns its length in bytes.
 fn write_message(alloc: Global, error: &ParseError, room: &mut [u8]) -> i64
     ensures { ((result ≡ no_memory) × (room.new ≡ room.old)) ⊎ IsWritten (fault_text (fault_of error.now)) result room.old room.new }
 {
@@ -20,7 +20,7 @@ fn write_message(alloc: Global, error: &ParseError, room: &mut [u8]) -> i64
     }
 }
 
-// Returns the same for the error of this number.
+// Writes the message of the error with this number, and returns its length in bytes.
 fn write_message_of(alloc: Global, errors: &[ParseError], number: usize, room: &mut [u8]) -> i64
     ensures { ((result ≡ no_memory) × (room.new ≡ room.old)) ⊎ WritesMessage (map fault_of errors.now) number result room.old room.new }
 {
@@ -30,7 +30,7 @@ fn write_message_of(alloc: Global, errors: &[ParseError], number: usize, room: &
     }
 }
 
-// Returns the texts of the errors, each ended by a line feed.
+// Returns the messages of the errors, each followed by a line feed.
 fn messages_of(alloc: Global, errors: &[ParseError]) -> Result<String, fmt::Error>
     ensures { IfOk result (λ messages. string_bytes messages ≡ messages_of (map fault_of errors.now)) }
 {
@@ -41,7 +41,7 @@ fn messages_of(alloc: Global, errors: &[ParseError]) -> Result<String, fmt::Erro
     Ok(messages)
 }
 
-/// The text of one error of a text: how many bytes it has.
+/// Writes the message of one error of a text, and returns its length in bytes.
 #[unsafe(no_mangle)]
 pub extern "C" fn rnix_error_text(alloc: Global, text: &[u8], number: usize, room: &mut [u8]) -> i64
     ensures { Answers text.now result (room.new ≡ room.old) (λ _ faults. WritesMessage faults number result room.old room.new) }
@@ -52,7 +52,7 @@ pub extern "C" fn rnix_error_text(alloc: Global, text: &[u8], number: usize, roo
     }
 }
 
-/// The texts of all errors of a text, each on a line: how many bytes these are.
+/// Writes the messages of all errors of a text, each on a line, and returns their length in bytes.
 #[unsafe(no_mangle)]
 pub extern "C" fn rnix_error_texts(alloc: Global, text: &[u8], room: &mut [u8]) -> i64
     ensures { Answers text.now result (room.new ≡ room.old) (λ _ faults. IsWritten (messages_of faults) result room.old room.new) }

@@ -68,7 +68,7 @@ fn reference_of(reference: &Reference<'_>) -> RnixReference
     }
 }
 
-// Writes the first bindings, as many as there is room for.
+// Writes the first bindings, as many as fit into the array.
 fn fill_bindings(bindings: &[Binding<'_>], room: &mut [RnixBinding])
     ensures { room.new ≡ filled (map (λ binding. binding_of binding.first (bound_of binding)) bindings.now) room.old }
 {
@@ -77,7 +77,7 @@ fn fill_bindings(bindings: &[Binding<'_>], room: &mut [RnixBinding])
     }
 }
 
-// Writes the first references, as many as there is room for.
+// Writes the first references, as many as fit into the array.
 fn fill_references(references: &[Reference<'_>], room: &mut [RnixReference])
     ensures { room.new ≡ filled (map reference_of (map resolved_of references.now)) room.old }
 {
@@ -86,7 +86,7 @@ fn fill_references(references: &[Reference<'_>], room: &mut [RnixReference])
     }
 }
 
-/// Writes the first bindings and references, as many as there is room for, and how many references there are. Returns how many bindings there are.
+/// Writes the first bindings and references, as many as fit into the arrays, and the number of references. Returns the number of bindings.
 pub fn write_names(
     names: &Resolution<'_>,
     root: &SyntaxNode<'_>,
@@ -109,7 +109,7 @@ pub fn write_names(
     bound.len() as i64
 }
 
-/// The bindings and the references of a text: how many bindings there are. The number of references is written too.
+/// Writes the bindings and the references of a text, and the number of references. Returns the number of bindings.
 #[unsafe(no_mangle)]
 pub extern "C" fn rnix_names(
     alloc: Global,

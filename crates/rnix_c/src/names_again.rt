@@ -1,4 +1,4 @@
-//! The names of a text, from what is kept of its parse.
+//! The names of a text, from what was stored of its parse.
 
 ghost use Rattle.std.specs.Prelude.{◌≡◌};
 ghost use Rattle.rnix_c.specs.Answers.{Answers};
@@ -12,8 +12,8 @@ use crate::names::{RnixBinding, RnixReference, write_names};
 use nix_scopes::resolve;
 use std::alloc::Global;
 
-/// The bindings and the references of a text, as `rnix_names` returns and writes them. The arrays `ranges` and `links` and the number of errors are what
-/// `rnix_parse_compact` or `rnix_parse_again` wrote for the text.
+/// Writes the bindings and the references of a text, and returns the number of bindings, as `rnix_names` does. The arrays `ranges` and `links` and the
+/// number of errors are what `rnix_parse_compact` or `rnix_parse_again` wrote for the text.
 #[unsafe(no_mangle)]
 pub extern "C" fn rnix_names_again(
     alloc: Global,

@@ -16,7 +16,7 @@ pub struct RnixPosition {
     pub column: u64,
 }
 
-// Returns the unit of columns that has this number.
+// Returns the unit of columns with this number.
 fn unit_at(number: u32) -> Option<ColumnUnit>
     ensures found { IfSome result (λ unit. IsUnit number unit) }
     ensures missing { IfNone result (2 < number) }
@@ -45,7 +45,7 @@ fn position_of(index: &LineIndex<'_>, offset: u64) -> RnixPosition
     }
 }
 
-// Writes the positions of the first offsets, as many as there is room for.
+// Writes the positions of the first offsets, as many as fit into the array.
 fn fill(index: &LineIndex<'_>, offsets: &[u64], room: &mut [RnixPosition])
     ensures { room.new ≡ filled (positions_of index.now.unit index.now.text offsets.now) room.old }
 {
@@ -54,7 +54,7 @@ fn fill(index: &LineIndex<'_>, offsets: &[u64], room: &mut [RnixPosition])
     }
 }
 
-/// The positions of offsets in a text: how many offsets there are.
+/// Writes the positions of offsets in a text, and returns the number of offsets.
 #[unsafe(no_mangle)]
 pub extern "C" fn rnix_positions(
     alloc: Global,

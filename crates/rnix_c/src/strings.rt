@@ -23,7 +23,7 @@ pub struct RnixPart {
     pub is_interpolation: u32,
 }
 
-// Returns the element of this number.
+// Returns the element with this number.
 fn element_at<'t>(green: &'t GreenNode, number: usize) -> Option<SyntaxElement<'t>>
     ensures { option_map spot_of result ≡ slice_get (elements_of (located green.now 0)) number }
 {
@@ -31,7 +31,7 @@ fn element_at<'t>(green: &'t GreenNode, number: usize) -> Option<SyntaxElement<'
     root.descendants_with_tokens().nth(number)
 }
 
-// Returns the string that is the element of this number.
+// Returns the string that is the element with this number.
 fn string_at<'t>(green: &'t GreenNode, number: usize) -> Option<Str<'t>>
     ensures found { IfSome result (λ string. (string ≡ located green.now number) × IsString (located green.now number)) }
     ensures missing { IfNone result (¬ IsString (located green.now number)) }
@@ -42,7 +42,7 @@ fn string_at<'t>(green: &'t GreenNode, number: usize) -> Option<Str<'t>>
     Str::cast(node)
 }
 
-// Returns the parts of the string that is the element of this number, if there is one.
+// Returns the parts of the string that is the element with this number, if there is one.
 fn parts_of<'t>(
     alloc: Global,
     green: &'t GreenNode,
@@ -105,7 +105,7 @@ fn part_at(part: &InterpolPart<'_, String>, before: usize) -> RnixPart
     }
 }
 
-// Writes the first parts, as many as there is room for.
+// Writes the first parts, as many as fit into the array.
 fn fill(parts: &[InterpolPart<'_, String>], room: &mut [RnixPart])
     ensures { room.new ≡ filled (parts_from 0 (owned parts.now)) room.old }
 {
@@ -117,7 +117,7 @@ fn fill(parts: &[InterpolPart<'_, String>], room: &mut [RnixPart])
     }
 }
 
-// Writes the first parts, as many as there is room for, and returns how many there are.
+// Writes the first parts, as many as fit into the array, and returns the number of all parts.
 fn write_parts(parts: &[InterpolPart<'_, String>], room: &mut [RnixPart]) -> i64
     ensures { IsWritten (parts_from 0 (owned parts.now)) result room.old room.new }
 {
@@ -149,7 +149,7 @@ pub extern "C" fn rnix_string_text(
     }
 }
 
-/// The parts of a string: how many there are.
+/// Writes the parts of a string, and returns their number.
 #[unsafe(no_mangle)]
 pub extern "C" fn rnix_string_parts(
     alloc: Global,

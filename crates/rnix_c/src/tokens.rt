@@ -15,7 +15,7 @@ pub struct RnixToken {
     pub kind: u32,
 }
 
-// Writes the first tokens of the text, as many as there is room for, and returns how many it has.
+// Writes the first tokens of the text, as many as fit into the array, and returns the number of all tokens.
 fn written(alloc: Global, text: &str, room: &mut [RnixToken]) -> i64
     ensures { WritesTokens text.now result room.old room.new }
 {
@@ -39,7 +39,7 @@ fn written(alloc: Global, text: &str, room: &mut [RnixToken]) -> i64
     count as i64
 }
 
-/// The tokens of a text: how many there are.
+/// Writes the tokens of a text, and returns their number.
 #[unsafe(no_mangle)]
 pub extern "C" fn rnix_tokens(alloc: Global, text: &[u8], room: &mut [RnixToken]) -> i64
     ensures { AnswersTokens text.now result room.old room.new }

@@ -12,7 +12,7 @@ use crate::errors::{self, RnixError};
 use rnix::{GreenNode, ParseError};
 use std::alloc::Global;
 
-// Writes the elements and the errors, and the number of errors, and returns how many elements there are.
+// Writes the elements, the errors and the number of errors, and returns the number of elements.
 fn write_parse(
     green: &GreenNode,
     faults: &[ParseError],
@@ -29,8 +29,8 @@ fn write_parse(
     elements::written(green, elements)
 }
 
-/// The elements and the errors of a text: how many elements there are, at most three for each byte and three more. The number of errors is
-/// written too.
+/// Writes the elements and the errors of a text, and the number of errors. Returns the number of elements: at most three for each byte and three
+/// more.
 #[unsafe(no_mangle)]
 pub extern "C" fn rnix_parse(
     alloc: Global,
@@ -49,7 +49,7 @@ pub extern "C" fn rnix_parse(
     }
 }
 
-/// The elements of a text's tree, in preorder: how many there are, at most three for each byte and three more.
+/// Writes the elements of a text's tree, in preorder, and returns their number: at most three for each byte and three more.
 #[unsafe(no_mangle)]
 pub extern "C" fn rnix_elements(alloc: Global, text: &[u8], room: &mut [RnixElement]) -> i64
     ensures { Answers text.now result (room.new ≡ room.old) (λ tree _. IsWritten (elements_of tree) result room.old room.new × AreFew text.now tree) }
@@ -60,7 +60,7 @@ pub extern "C" fn rnix_elements(alloc: Global, text: &[u8], room: &mut [RnixElem
     }
 }
 
-/// The errors of a text: how many there are.
+/// Writes the errors of a text, and returns their number.
 #[unsafe(no_mangle)]
 pub extern "C" fn rnix_errors(alloc: Global, text: &[u8], room: &mut [RnixError]) -> i64
     ensures { Answers text.now result (room.new ≡ room.old) (λ _ faults. IsWritten (errors_of faults) result room.old room.new) }

@@ -16,14 +16,14 @@ byte_at text n =
     let test : (suc n == 0) ≡ false = grind (arith, nat_tests) in
     ap (λ b. if b then 10 else slice_index text (suc n - 1)) test ∙ ap (slice_index text) less
 
--- one more blank is passed
+-- passing one more blank
 pub blank_passed : (text : List ℕ) (n : ℕ) → is_blank (byte_before text n) ≡ true → blanks_start text (n - 1) ≡ blanks_start text n
 blank_passed text zero is = refl
 blank_passed text (suc n) is =
     let less : suc n - 1 ≡ n = omega arith in
     ap (blanks_start text) less ∙ ap (λ b. if b then blanks_start text n else suc n) (sym (ap is_blank (sym (byte_at text n)) ∙ is))
 
--- if no blank is left, this is where the blanks begin
+-- if no blank remains, the blanks begin here
 pub blanks_passed : (text : List ℕ) (n : ℕ) → is_blank (byte_before text n) ≡ false → n ≡ blanks_start text n
 blanks_passed text zero fails = refl
 blanks_passed text (suc n) fails = ap (λ b. if b then blanks_start text n else suc n) (sym (ap is_blank (sym (byte_at text n)) ∙ fails))
@@ -47,7 +47,7 @@ blanks_between text (suc n) k low high = between_by text n k (is_blank (slice_in
 blank_is_ascii : (byte : ℕ) → is_blank byte ≡ true → byte < 128
 blank_is_ascii byte is = grind (arith, nat_tests)
 
--- a blank is in the text
+-- a blank is inside the text
 blank_is_there : (text : List ℕ) (k : ℕ) → is_blank (slice_index text k) ≡ true → k < length text
 blank_is_there text k is =
     elim (cases_lt k (length text)) [

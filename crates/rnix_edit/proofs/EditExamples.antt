@@ -1,4 +1,4 @@
--- What is removed with a node, and where a new one is put, in small texts, by computation. An entry of a set is one token here.
+-- What is removed with a node, and where a new node is written, in small texts; by computation. An entry of a set is one token here.
 use Rattle.std.proofs.Common.{◌≡◌, ℕ, List, [], refl, codes, arith}
 use Rattle.std.proofs.lemmas.Bool.{false≢true}
 use Rattle.rnix_kinds.specs.declared.kinds.SyntaxKind.TheVariants as k
@@ -30,7 +30,7 @@ without text e = spliced text (cut_of text e).start (cut_of text e).end []
 abbrev with_c : List ℕ → Gap → List ℕ
 with_c text gap = spliced text gap.start gap.end (put_in gap (codes "c;"))
 
--- a set whose entries have lines of their own
+-- a set with each entry on a line of its own
 abbrev lines : List ℕ
 lines = codes "{\n  a; # 1\n  b;\n}\n"
 
@@ -50,11 +50,11 @@ without_last_line = refl
 after_line : with_c lines (gap_after lines (in_lines 4)) ≡ codes "{\n  a; # 1\n  c;\n  b;\n}\n"
 after_line = refl
 
--- at the end of the set, it gets the line before the closing brace
+-- at the end of the set, a new entry gets the line before the closing brace
 in_set : with_c lines (gap_inside lines (in_lines 1)) ≡ codes "{\n  a; # 1\n  b;\n  c;\n}\n"
 in_set = refl
 
--- a set in one line
+-- a set on one line
 abbrev one_line : List ℕ
 one_line = codes "{ a; b;}"
 
@@ -84,7 +84,7 @@ entry_is_last = record { added = record { is_there = refl; rest = refl }; fits =
 abbrev body : Forest → Forest
 body entries = node k.NODE_LAMBDA (set entries empty) empty
 
--- an entry at the end of that set, after the brace, is not last in the function: no token of the function follows
+-- an entry at the end of that set, after the brace, is not last in the function, since no token of the function follows it
 entry_is_not_last : ¬ (IsLastIn (at (body closing) 0) (node_range_of (at (body closing) 1))
     (at (body (leaf k.TOKEN_R_BRACE (codes "}") (entry (codes "c;") empty))) 0) (node_range_at k.NODE_ATTRPATH_VALUE 2 (codes "c;")))
 entry_is_not_last = λ last. false≢true last.token

@@ -1,4 +1,4 @@
--- What the tests say of a text with one change.
+-- What the tests say about a text with one change.
 use Rattle.std.proofs.Common.{◌≡◌, ℕ, false, List, [], ◌∷◌, ◌++◌, length, sym, ap, ◌∙◌, subst, arith, string_bytes}
 use Rattle.std.proofs.lemmas.{List.length-append, Bool.false≢true}
 use Rattle.rnix_kinds.specs.Lexical.Tokens.{tokens_of}
@@ -45,7 +45,7 @@ module _ (text : List ℕ) (start end : ℕ) (new : List ℕ) (so : Located → 
     is_not = fails;
   }
 
--- a text that is read so, and kept, has the new node
+-- if the edit is kept, the text has the new node
 pub kept_done : (text : List ℕ) (start end : ℕ) (new : List ℕ) (so : Located → Type 0) (edited : Edited) (read : Reading)
     → IsReadAs (spliced text start end new) read → so (root_of read) → (alike : Located → Type 0) (made : List ℕ) (Tested : Type 0) (P : List ℕ → Type 0)
     → made ≡ spliced text start end new → (Tested → alike (root_of read)) → ((kept : List ℕ) → IsMade text start end new (Both so alike) kept → P kept)
@@ -54,7 +54,7 @@ kept_done text start end new so (outcome.Done kept) read h holds alike made Test
     to (string_bytes kept) (made_so text start end new (Both so alike) (string_bytes kept) read (done.0 ∙ is) h (holds, tells done.1))
 kept_done text start end new so (outcome.Refused reason) read h holds alike made Tested P is tells to done = tt
 
--- and one that is not kept has another one
+-- if it is not kept, the text has another node there
 pub kept_refused : (text : List ℕ) (start end : ℕ) (new : List ℕ) (so : Located → Type 0) (edited : Edited) (read : Reading)
     → IsReadAs (spliced text start end new) read → so (root_of read) → (unlike : Located → Type 0) (Tested : Type 0) (P : Refusal → Type 0)
     → (Tested → unlike (root_of read)) → ((reason : Refusal) → IsNotMade reason text start end new so unlike → P reason)
@@ -67,11 +67,11 @@ kept_refused text start end new so (outcome.Refused reason) read h holds unlike 
       is_so = (holds, tells refused.1);
     })
 
--- a list with an element is not empty
+-- a list that contains an element is not empty
 met_none : {X : Type 0} (front : List X) (x : X) (back : List X) → front ++ x ∷ back ≡ [] → ⊥
 met_none front x back none = absurd (omega (arith, ap length none, length-append front (x ∷ back)))
 
--- a single change is refused, other than for memory, only if its range is not one of characters of the text
+-- a single change is refused, other than for memory, only if its range does not begin and end at characters of the text
 pub not_in_text : (text : List ℕ) (start end : ℕ) (draft : Draft) (error : EditError) → draft ≡ record { text = text; changes = [] } →
     is_memory error ≡ false → IsCause error draft start end → ¬ (IsInside text start end × IsBetween text start end)
 not_in_text text start end draft cause.OutOfText is other why = λ both. subst (λ (d : Draft). ¬ IsInside d.text start end) is why both.0

@@ -13,7 +13,7 @@ pub record IsPassed (target : NodeRange) (events : List Event) : Type 0 where
   pub after : events_after target events ≡ events_after target (events_inside target events)
   pub remaining : is_exited target events ≡ is_exited target (events_inside target events)
 
--- whether a spot is the node at a place
+-- whether a spot is the node with the range
 abbrev is_there : NodeRange → Spot → Bool
 is_there target spot = spot.0 && is_at target spot.1
 
@@ -66,7 +66,7 @@ passed target root =
     subst (IsPassed target) (append-nil (preorder_of root))
     (passed_row target root.tree root.number (part_at root) [] record { after = refl; remaining = refl })
 
--- whether one of some spots is the node
+-- whether some spot in a list is the node
 any_node : (target : NodeRange) (spot : Spot) (spots : List Spot) →
     list_any (is_at target) (nodes_in (spot ∷ spots)) ≡ (is_there target spot || list_any (is_at target) (nodes_in spots))
 any_node target spot spots =

@@ -1,4 +1,4 @@
--- Nodes that are the same with all that is inside them, by what walks over them show.
+-- Nodes that are equal with everything inside them, given what walks over them show.
 use Rattle.std.proofs.Common.{◌≡◌, ℕ, ◌+◌, ◌≤◌, nat_lt, List, [], ◌∷◌, ◌++◌, length, map, Bool, true, false, refl, ap, sym, ◌∙◌, arith, inl, inr}
 use Rattle.std.proofs.lemmas.{Bool.{cases_lt, false≢true, Decides.{Decides-like, Decides-and}}, List.{append_cancel_left, map-append}, Slice.Eq.bytes_eq-Decides}
 use Rattle.std.specs.{Prelude.{◌&&◌, if◌then◌else◌, Option, Some, None, is_some, not}, Bool.{Decides, beq}, Cmp.booleans_Decides, Str.bytes_eq, Iterator.YieldsFirstBy}
@@ -20,7 +20,7 @@ same_shown_decides a b =
     (Decides-and (beq a.is_node b.is_node) (same_kind a.kind b.kind && bytes_eq a.text b.text) (booleans_Decides a.is_node b.is_node)
     (Decides-and (same_kind a.kind b.kind) (bytes_eq a.text b.text) (same_kind-decides a.kind b.kind) (bytes_eq-Decides a.text b.text))))
 
--- an element beyond a row is no part of it
+-- an element after the end of a row is not a part of it
 part_beyond : (m n : ℕ) (f : Forest) → n + element_count f ≤ m → part_of m n f ≡ empty
 part_beyond m n empty l = refl
 part_beyond m n (leaf k t f) l =
@@ -32,7 +32,7 @@ part_beyond m n (node k c f) l =
     ∙ ap (λ b. if b then inner else outer) (is_not_below m (n + 1 + element_count c) (omega (arith, l)))
     ∙ part_beyond m (n + 1 + element_count c) f (omega (arith, l))
 
--- a walk over an element shows the element with what is inside it
+-- a walk over an element shows the element and everything inside it
 pub shows_part : (e : Located) → map shown_of (preorder_of e) ≡ shown_from (part_at e)
 shows_part e = elim (cases_lt e.number (length (items_of e.tree))) [
   | inl there ↦ (let part = part_forest e.tree e.number there in shows e.tree e.number part.start part.parent (part_at e) part.is)
@@ -49,7 +49,7 @@ none_joined empty (node k c g) e = absurd (omega (arith, e))
 none_joined (leaf k u f) g e = ap (leaf k u) (none_joined f g e)
 none_joined (node k c f) g e = ap (node k c) (none_joined f g e)
 
--- what is shown of a row determines it
+-- what a walk over a row shows determines the row
 pub same_rows : (f g : Forest) → shown_from f ≡ shown_from g → f ≡ g
 same_rows f g e =
     let whole : shown_from f ++ [] ≡ shown_from g ++ [] = ap (λ shown. shown ++ []) e in
@@ -65,7 +65,7 @@ same_rows f g e =
     ) in
     sym (one.is ∙ none_joined f one.rest none)
 
--- so two nodes are the same just if walks over them show the same
+-- so two nodes are equal exactly if walks over them show the same
 pub same_trees : (one other : Located) (a b : List Event) (same : Bool) → a ≡ preorder_of one → b ≡ preorder_of other
     → Decides same (map shown_of a ≡ map shown_of b) → Decides same (part_at one ≡ part_at other)
 same_trees one other a b same first second tested =
@@ -75,12 +75,12 @@ same_trees one other a b same first second tested =
     (λ parts. (ap (map shown_of) first ∙ shows_part one) ∙ ap shown_from parts ∙ sym (ap (map shown_of) second ∙ shows_part other))
     tested
 
--- what is left of two walks shows the same just if all of them does
+-- the remaining events of two walks show the same exactly if all events do
 pub record ShowAlike (a b a_remaining b_remaining : List Event) : Type 0 where
   pub there : map shown_of a_remaining ≡ map shown_of b_remaining → map shown_of a ≡ map shown_of b
   pub back : map shown_of a ≡ map shown_of b → map shown_of a_remaining ≡ map shown_of b_remaining
 
--- so it is after both passed what is alike
+-- this holds after both walks have passed events that show the same
 pub shown_passed : (before other_before : ℕ) (result : Option Bool) (a b a_remaining b_remaining : List Event)
     → PassesAlike before other_before result a b a_remaining b_remaining → ShowAlike a b a_remaining b_remaining
 shown_passed before other_before result a b a_remaining b_remaining passes =
@@ -94,7 +94,7 @@ shown_passed before other_before result a b a_remaining b_remaining passes =
       back = λ whole. append_cancel_left front (map shown_of a_remaining) (map shown_of b_remaining) (sym first ∙ whole ∙ second);
     }
 
--- and after one more event of each that show the same
+-- it holds after one more event of each, if these show the same
 pub shown_more : (a b all_a all_b rest_a rest_b : List Event) (x y : Event) → ShowAlike a b all_a all_b → all_a ≡ x ∷ rest_a → all_b ≡ y ∷ rest_b
     → shown_of x ≡ shown_of y → ShowAlike a b rest_a rest_b
 shown_more a b all_a all_b rest_a rest_b x y so_far first second same =
@@ -105,7 +105,7 @@ shown_more a b all_a all_b rest_a rest_b x y so_far first second same =
       back = λ whole. (let rests : map shown_of all_a ≡ map shown_of all_b = so_far.back whole in cc);
     }
 
--- walks of which one goes on and the other one ends do not show the same
+-- if one walk has ended and the other has not, they do not show the same
 pub shown_longer : (a b all_a all_b rest : List Event) (x : Event) → ShowAlike a b all_a all_b → all_a ≡ x ∷ rest → all_b ≡ []
     → ¬ (map shown_of a ≡ map shown_of b)
 shown_longer a b all_a all_b rest x so_far first second = λ whole.
@@ -114,7 +114,7 @@ shown_longer a b all_a all_b rest x so_far first second = λ whole.
     let both : shown_of x ∷ map shown_of rest ≡ [] = sym one ∙ so_far.back whole ∙ two in
     absurd (omega (arith, ap length both))
 
--- nor do those with events next that show different things
+-- nor do they if their next events differ in what they show
 pub shown_differs : (a b all_a all_b rest_a rest_b : List Event) (x y : Event) → ShowAlike a b all_a all_b → all_a ≡ x ∷ rest_a → all_b ≡ y ∷ rest_b
     → ¬ (shown_of x ≡ shown_of y) → ¬ (map shown_of a ≡ map shown_of b)
 shown_differs a b all_a all_b rest_a rest_b x y so_far first second differ = λ whole.
@@ -123,7 +123,7 @@ shown_differs a b all_a all_b rest_a rest_b x y so_far first second differ = λ 
     let both : shown_of x ∷ map shown_of rest_a ≡ shown_of y ∷ map shown_of rest_b = sym one ∙ so_far.back whole ∙ two in
     differ cc
 
--- where one walk ends, both show the same just if the other one ends too
+-- if one walk has ended, both show the same exactly if the other has ended too
 pub shown_end : (a b all_a all_b rest : List Event) (found : Option (WalkEvent (NodeOrToken Located Located))) (none : Bool) → ShowAlike a b all_a all_b
     → all_a ≡ [] → YieldsFirstBy event_of (λ (s : List Event). s) all_b found rest → is_some found ≡ not none → Decides none (map shown_of a ≡ map shown_of b)
 shown_end a b all_a all_b rest None true so_far end next is = (λ _. so_far.there (ap (map shown_of) end ∙ sym (ap (map shown_of) next.0)), λ _. refl)

@@ -38,7 +38,7 @@ pub walks_end : (a b whole_a whole_b : List Step) (ended : Bool) → (a ≡ b �
 walks_end a b whole_a whole_b ended there back end tested =
     (λ is. there (end ∙ sym (tested.0 is)), λ same. tested.1 (sym (back same) ∙ end))
 
--- if no step comes next, there are no steps left
+-- if no step comes next, no steps remain
 pub none_tested : (found : Option Made) (none : Bool) (steps remaining : List Step)
     → MatchOption found (steps ≡ []) (λ step. steps ≡ step_of step ∷ remaining) →
     is_some found ≡ not none → Decides none (steps ≡ [])

@@ -1,4 +1,4 @@
--- The steps of a walk, from what its events show.
+-- The steps of a walk, given what its events show.
 use Rattle.std.proofs.Common.{◌≡◌, ◌≤◌, ◌<◌, ◌-◌, ◌==◌, ℕ, zero, suc, List, [], ◌∷◌, ◌++◌, length, get_or, map, flat_map, Bool, true, false, Option, Some, None, refl, ap, sym, ◌∙◌, subst, arith, append_assoc, length-append, inl, inr}
 use Rattle.std.proofs.lemmas.{List.append_cancel_left, Grind.flat_map-append, List.Elements.{All-nil, All-head, All-tail}, Bool.{cases_lt, Decides.nat_tests}}
 use Rattle.std.specs.{Prelude.{if◌then◌else◌, ◌&&◌}, List.All}
@@ -9,7 +9,7 @@ use Rattle.rnix_edit.specs.declared.node_range.NodeRange.{NodeRange}
 use Rattle.rnix_edit.specs.Steps.{Step, node_step, token_steps, step_at, steps_of, enters, events_before, events_inside, ArePassed}
 use Rattle.rnix_edit.proofs.StepLemmas.{RestContinues}
 
--- the step of an event, from what it shows
+-- the step of an event, given what it shows
 abbrev steps_shown : Shown → List Step
 steps_shown s = if s.is_node then node_step s.enters s.kind ∷ [] else (if s.enters then token_steps s.kind s.text else [])
 
@@ -32,13 +32,13 @@ all_shown (event ∷ events) = ap (λ steps. steps ++ steps_of events) (step_sho
 same_steps : (passed twins : List Event) → map shown_of passed ≡ map shown_of twins → steps_of passed ≡ steps_of twins
 same_steps passed twins e = all_shown passed ∙ ap (flat_map steps_shown) e ∙ sym (all_shown twins)
 
--- two walks begin with the same steps, and these steps remain
+-- two walks begin with equal steps, and these steps remain
 pub record RestDecides (a b a_remaining b_remaining : List Step) : Type 0 where
   pub front : List Step
   pub first : a ≡ front ++ a_remaining
   pub second : b ≡ front ++ b_remaining
 
--- the remaining steps are the same exactly if all are, and there are no more of them
+-- the remaining steps are equal exactly if all are, and no more steps remain than before
 pub alike_there : (a b a_remaining b_remaining : List Step) → RestDecides a b a_remaining b_remaining → a_remaining ≡ b_remaining → a ≡ b
 alike_there a b a_remaining b_remaining h rests = h.first ∙ ap (λ steps. h.front ++ steps) rests ∙ sym h.second
 
@@ -51,7 +51,7 @@ alike_shorter a b a_remaining b_remaining h = omega (arith, ap length h.first, l
 pub other_shorter : (a b a_remaining b_remaining : List Step) → RestDecides a b a_remaining b_remaining → length b_remaining ≤ length b
 other_shorter a b a_remaining b_remaining h = omega (arith, ap length h.second, length-append h.front b_remaining)
 
--- one more step was taken before
+-- taking one more step leaves fewer
 pub fewer : (x : Step) (remaining all remaining_after : List Step) → all ≡ x ∷ remaining → length remaining_after ≤ length remaining
     → length remaining_after < length all
 fewer x remaining all remaining_after e h = omega (arith, ap length e, h)
@@ -130,7 +130,7 @@ passed_before target (event ∷ passed) rest all =
       ap (λ b. if b then passed ++ rest else events_inside target (passed ++ rest)) fails ∙ h.1,
     )
 
--- no event was passed
+-- before any event is passed
 pub none_passed : (before other_before : ℕ) (a b : List Event) → ArePassed before other_before a b a b
 none_passed before other_before a b = record {
   passed = [];
@@ -142,7 +142,7 @@ none_passed before other_before a b = record {
   other_ends = All-nil (EndsBefore other_before);
 }
 
--- the events of siblings were passed
+-- passing the events of siblings
 pub as_passed : (before other_before : ℕ) (result : Option Bool) (a b a_remaining b_remaining : List Event)
     → PassesAlike before other_before result a b a_remaining b_remaining
     → ArePassed before other_before a b a_remaining b_remaining
@@ -162,9 +162,9 @@ as_passed before other_before (Some true) a b a_remaining b_remaining h = record
   other_ends = h.other_before;
 }
 
--- the remaining events of two walks that passed alike events
+-- the remaining events of two walks that have passed events that show the same
 module _ (before other_before : ℕ) (a b a_remaining b_remaining : List Event) (h : ArePassed before other_before a b a_remaining b_remaining) where
-  -- the steps before were the same
+  -- the passed steps are equal
   pub passed_alike : RestDecides (steps_of a) (steps_of b) (steps_of a_remaining) (steps_of b_remaining)
   passed_alike = rest_decides h.passed h.twins a b a_remaining b_remaining h.alike h.first h.second
 
@@ -186,7 +186,7 @@ module _ (before other_before : ℕ) (a b a_remaining b_remaining : List Event) 
   pub inside_second : (target : NodeRange) → other_before ≡ target.start → events_inside target b_remaining ≡ events_inside target b
   inside_second target e = sym (ap (events_inside target) h.second ∙ (before_second target e).1)
 
-  -- the steps of the first walk up to the node, and of the second one to its end
+  -- the steps of the first walk up to the node, and those of the second to its end
   pub alike_before : (target : NodeRange) → before ≡ target.start
       → RestDecides (steps_of (events_before target a)) (steps_of b) (steps_of (events_before target a_remaining)) (steps_of b_remaining)
   alike_before target e =

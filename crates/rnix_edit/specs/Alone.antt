@@ -1,4 +1,4 @@
--- A new node, and the node that its text is alone.
+-- A new node, compared with the node as which its text is parsed alone.
 use Rattle.std.specs.Prelude.{◌≡◌, ℕ, ◌||◌, not, Bool, true, List, [], ◌++◌, codes, length, find, Option, Some, None, if◌then◌else◌}
 use Rattle.rnix_kinds.specs.declared.kinds.SyntaxKind.{SyntaxKind}
 use Rattle.rnix_kinds.specs.declared.kinds.SyntaxKind.TheVariants as k
@@ -13,7 +13,7 @@ use Rattle.rnix.specs.ParseResult.{Reading, root_of}
 use Rattle.rnix_edit.specs.declared.node_range.NodeRange.{NodeRange}
 use Rattle.rnix_edit.specs.Steps.{is_at}
 
--- as a NODE_IDENT, `or` and `__curPos` are names of attributes, arguments or parameters, and no expressions
+-- as a NODE_IDENT, `or` and `__curPos` are names of attributes, arguments or parameters, but not expressions
 abbrev pub is_only_name : List ℕ → Bool
 is_only_name text = is_or text || is_cur_pos text
 
@@ -21,33 +21,33 @@ is_only_name text = is_or text || is_cur_pos text
 abbrev pub is_readable : SyntaxKind → List ℕ → Bool
 is_readable kind new = if same_kind kind k.NODE_IDENT then not (is_only_name new) else (is_expr kind || is_entry kind)
 
--- what precedes the text of a node where it is read alone: a brace if it is an entry
+-- what precedes the text of a node when it is parsed alone: a brace if the node is an entry
 abbrev pub alone_before : SyntaxKind → List ℕ
 alone_before kind = if is_entry kind then codes "{" else []
 
--- what follows it there
+-- what follows the text of a node when it is parsed alone
 abbrev pub alone_after : SyntaxKind → List ℕ
 alone_after kind = if is_entry kind then codes "}" else []
 
--- the text of a node as it is read alone: an expression as it is, an entry in braces
+-- the text that is parsed for a node alone: an expression as it is, an entry in braces
 abbrev pub alone_text : SyntaxKind → List ℕ → List ℕ
 alone_text kind new = alone_before kind ++ (new ++ alone_after kind)
 
--- the place of the node there
+-- the range of the node in that text
 abbrev pub alone_range : NodeRange → NodeRange
 alone_range target = record { kind = target.kind; start = length (alone_before target.kind); len = target.len }
 
--- the first node at a place of a tree
+-- the first node with a range in a tree
 abbrev pub node_at : NodeRange → Located → Option Located
 node_at target root = find (is_at target) (nodes_in (elements_of root))
 
--- both nodes are there, and they are the same with all that is inside them
+-- both nodes exist, and they are equal with everything inside them
 abbrev pub AreSame : Option Located → Option Located → Type 0
 AreSame None found = ⊥
 AreSame (Some node) None = ⊥
 AreSame (Some node) (Some own) = part_at node ≡ part_at own
 
--- a reading of a text alone has no errors, and its node is the one at a place of a tree
+-- a reading of the text alone has no errors, and its node is the one with a range in another tree
 pub record IsSameNode (target : NodeRange) (root : Located) (read : Reading) : Type 0 where
   pub none : read.faults ≡ []
   pub same : AreSame (node_at target root) (node_at (alone_range target) (root_of read))
@@ -58,11 +58,11 @@ pub record IsReadAlone (kind : SyntaxKind) (new : List ℕ) (so : Reading → Ty
   pub is_read : IsParsed (tokens_of (alone_text kind new)) read.tree read.faults
   pub is_so : so read
 
--- if the node at a place is an expression or an entry, it is the node that its text is alone
+-- if the node with a range is an expression or an entry, it is the node as which its text is parsed alone
 abbrev pub IsAsAlone : List ℕ → NodeRange → Located → Type 0
 IsAsAlone new target root = is_readable target.kind new ≡ true → IsReadAlone target.kind new (IsSameNode target root)
 
--- it is an expression or an entry, and another node than its text is alone
+-- the node with a range is an expression or an entry, but not the node as which its text is parsed alone
 pub record IsUnlikeAlone (new : List ℕ) (target : NodeRange) (root : Located) : Type 0 where
   pub readable : is_readable target.kind new ≡ true
   pub unlike : IsReadAlone target.kind new (λ read. ¬ IsSameNode target root read)

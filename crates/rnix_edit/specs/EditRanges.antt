@@ -6,26 +6,26 @@ use Rattle.rnix_edit.specs.Line.{rest_of_line, closing_start}
 use Rattle.rnix_edit.specs.declared.cut.Cut.{Cut}
 use Rattle.rnix_edit.specs.declared.line.RestOfLine.{RestOfLine}
 
--- the bytes from start up to end, with some comments
+-- the bytes from start up to end, which contain a number of comments
 abbrev pub cut : ℕ → ℕ → ℕ → Cut
 cut start end comments = record { start = start; end = end; comments = comments }
 
--- what goes with a node that is followed by more than comments on its line: the blanks before it if none follow it; those after it, if there are
--- some before it too or an opening bracket precedes it; otherwise none
+-- what is removed with a node that is followed by more than comments on its line: the blanks before it if none follow it; the blanks after it, if there
+-- are some before it too or an opening bracket precedes it; otherwise nothing
 abbrev pub cut_in_line : List ℕ → ℕ → ℕ → Cut
 cut_in_line text start end =
     if blanks_end text end == end then cut (blanks_start text start) end 0
     else (if nat_lt (blanks_start text start) start || follows_opening text start then cut start (blanks_end text end) 0
     else cut start end 0)
 
--- what goes with a node that is followed only by comments on its line: the whole line, with its line break, if the node is the first in it;
+-- what is removed with a node that is followed only by comments on its line: the whole line, with its line break, if the node is the first in it;
 -- otherwise the blanks before the node, the node and the comments
 abbrev pub cut_with_rest : List ℕ → ℕ → RestOfLine → Cut
 cut_with_rest text start rest =
     if begins_line text (blanks_start text start) then cut (blanks_start text start) rest.next_line rest.comments
     else cut (blanks_start text start) rest.end rest.comments
 
--- what goes with a node, by its range and by what follows it on its line
+-- what is removed with a node, given its range and what follows it on its line
 abbrev pub cut_of_range : List ℕ → ℕ → ℕ → Option RestOfLine → Cut
 cut_of_range text start end None = cut_in_line text start end
 cut_of_range text start end (Some rest) = cut_with_rest text start rest
@@ -34,7 +34,7 @@ cut_of_range text start end (Some rest) = cut_with_rest text start rest
 abbrev pub cut_of : List ℕ → Located → Cut
 cut_of text node = cut_of_range text (item_of node).start (item_of node).end (rest_of_line node)
 
--- a gap for a new text: the bytes from start up to end, what replaces them before and after the new text, and the number of
+-- a gap for a new text: the bytes from start up to end, what is written there before and after the new text, and the number of
 -- comments between a node and the gap
 pub record Gap : Type 0 where
   pub start : ℕ
@@ -43,7 +43,7 @@ pub record Gap : Type 0 where
   pub after : List ℕ
   pub comments : ℕ
 
--- the gap at the end of a node: a space comes before the new text
+-- the gap at the end of a node: a space precedes the new text
 abbrev pub gap_in_line : ℕ → Gap
 gap_in_line end = record { start = end; end = end; before = codes " "; after = []; comments = 0 }
 
@@ -57,7 +57,7 @@ gap_on_next_line text start rest = record {
   comments = rest.comments;
 }
 
--- the gap after a node, by its range and by what follows it on its line: on the next line if the node is the first in its line and only
+-- the gap after a node, given its range and what follows it on its line: on the next line if the node is the first in its line and only
 -- comments follow it there; otherwise at its end
 abbrev pub gap_after_range : List ℕ → ℕ → ℕ → Option RestOfLine → Gap
 gap_after_range text start end None = gap_in_line end
@@ -81,7 +81,7 @@ gap_above text closing = record {
 abbrev pub gap_before : List ℕ → ℕ → Gap
 gap_before text closing = record { start = blanks_start text closing; end = closing; before = codes " "; after = codes " "; comments = 0 }
 
--- the gap before the closing bracket of a node that begins at an offset: above the bracket's line if that line begins inside the node, with the bracket
+-- the gap before the closing bracket of a node: above the bracket's line if the bracket is first in it and the line begins inside the node
 abbrev pub gap_at_closing : List ℕ → ℕ → ℕ → Gap
 gap_at_closing text start closing =
     if begins_line text (blanks_start text closing) && nat_lt start (blanks_start text closing) then gap_above text closing else gap_before text closing
@@ -90,6 +90,6 @@ gap_at_closing text start closing =
 abbrev pub gap_inside : List ℕ → Located → Gap
 gap_inside text node = gap_at_closing text (item_of node).start (closing_start node)
 
--- what is put into a gap
+-- what is written into a gap
 abbrev pub put_in : Gap → List ℕ → List ℕ
 put_in gap new = gap.before ++ (new ++ gap.after)

@@ -1,4 +1,4 @@
--- The new text of an edit: parsed again, it has the old tree around the edited place, and there the new node.
+-- The text after an edit: parsed again, it has the old tree around the edited range, and the new node there.
 use Rattle.std.specs.Prelude.{◌≡◌, ◌≢◌, ℕ, ◌+◌, ◌≤◌, true, List, [], ◌++◌, length, take, drop, string_bytes}
 use Rattle.std.specs.List.{list_all}
 use Rattle.rnix_kinds.specs.declared.kinds.SyntaxKind.{SyntaxKind}
@@ -21,31 +21,31 @@ use Rattle.rnix_edit.specs.Alone.{IsAsAlone, IsUnlikeAlone}
 abbrev pub spliced : List ℕ → ℕ → ℕ → List ℕ → List ℕ
 spliced text start end new = take start text ++ (new ++ drop end text)
 
--- a node is at a place, and the tree around it is the tree around another place of another tree, white space aside
+-- the new tree has a node with the new range, and around it equals the old tree around the old range, except for white space
 pub record IsAround (root : Located) (old : NodeRange) (other : Located) (new : NodeRange) : Type 0 where
   pub is_there : has_node new other ≡ true
   pub before : steps_before new other ≡ steps_before old root
   pub after : steps_after new other ≡ steps_after old root
 
--- a tree is another one without the node at a place and so many comments after it, white space aside
+-- the new tree is the old one without the node with the range and the comments after it, except for white space
 pub record IsWithout (root : Located) (old : NodeRange) (comments : ℕ) (other : Located) : Type 0 where
   pub fits : comments ≤ length (steps_after old root)
   pub are_comments : list_all is_comment (take comments (steps_after old root)) ≡ true
   pub rest : steps_in other ≡ steps_before old root ++ drop comments (steps_after old root)
 
--- a node is at a place of a tree, and the tree without it is another tree, white space aside
+-- the new tree has a node with the range, and without this node it is the old tree, except for white space
 pub record IsWith (root other : Located) (new : NodeRange) : Type 0 where
   pub is_there : has_node new other ≡ true
   pub rest : steps_in root ≡ steps_before new other ++ steps_after new other
 
--- such a node comes right after a node of the other tree and so many comments
+-- the new node directly follows a node of the old tree and the comments after it
 pub record IsAfter (root : Located) (old : NodeRange) (comments : ℕ) (other : Located) (new : NodeRange) : Type 0 where
   pub added : IsWith root other new
   pub fits : comments ≤ length (steps_after old root)
   pub are_comments : list_all is_comment (take comments (steps_after old root)) ≡ true
   pub after : steps_after new other ≡ drop comments (steps_after old root)
 
--- such a node comes right before the last token of a node of the other tree: after it, the walk enters one more element, which can only be that
+-- the new node directly precedes the last token of a node of the old tree: after the new node, the walk enters one more element, which can only be that
 -- token, and then leaves the node
 pub record IsLastIn (root : Located) (old : NodeRange) (other : Located) (new : NodeRange) : Type 0 where
   pub added : IsWith root other new
@@ -57,7 +57,7 @@ pub record IsLastIn (root : Located) (old : NodeRange) (other : Located) (new : 
 abbrev pub root_in : Tree → Located
 root_in tree = record { tree = tree; number = 0 }
 
--- the place of a new node
+-- the range of a new node
 abbrev pub node_range_at : SyntaxKind → ℕ → List ℕ → NodeRange
 node_range_at kind start new = record { kind = kind; start = start; len = length new }
 
@@ -84,26 +84,26 @@ pub record IsMade (text : List ℕ) (start end : ℕ) (new : List ℕ) (so : Loc
   pub made_is : made ≡ spliced text start end new
   pub read : IsReadSo made so
 
--- both hold of a root
+-- a root satisfies both predicates
 abbrev pub Both : (Located → Type 0) → (Located → Type 0) → Located → Type 0
 Both so also root = so root × also root
 
--- why there is no such text, or none with the new node: `unlike` says of a root that satisfies `so` that it has another node there
+-- why there is no such text, or none with the new node: `unlike` says that a root that satisfies `so` has another node there
 abbrev pub IsNotMade : Refusal → List ℕ → ℕ → ℕ → List ℕ → (so unlike : Located → Type 0) → Type 0
 IsNotMade refusal.NotInText text start end new so unlike = ¬ (IsInside text start end × IsBetween text start end)
 IsNotMade refusal.HasErrors text start end new so unlike = IsReadWithErrors (spliced text start end new)
 IsNotMade refusal.ReadOtherwise text start end new so unlike = IsReadOtherwise (spliced text start end new) so
 IsNotMade refusal.NodeReadOtherwise text start end new so unlike = IsReadSo (spliced text start end new) (Both so unlike)
 
--- where no node is new, there is no other one
+-- without a new node, there is no other one
 abbrev pub NoNode : Located → Type 0
 NoNode root = ⊥
 
--- the root is that of the tree with a new node of the kind in place of another one
+-- the tree of the root is the old one with a new node of the kind in place of another
 abbrev pub IsTreeReplaced : Located → Located → SyntaxKind → List ℕ → Located → Type 0
 IsTreeReplaced root node kind new other = IsAround root (node_range_of node) other (node_range_at kind (item_of node).start new)
 
--- the text with a new text in place of that of a node: it is one node of the kind, the one that it is alone, and the tree around it is as before
+-- the text with a new text in place of a node: the new text is one node of the kind, the one as which it is parsed alone, and the tree around it is unchanged
 abbrev pub IsReplaced : List ℕ → Located → Located → SyntaxKind → List ℕ → List ℕ → Type 0
 IsReplaced text root node kind new made =
     IsMade text (item_of node).start (item_of node).end new
@@ -131,11 +131,11 @@ IsRemoved text root node made = IsCutOut text root node (cut_of text node) made
 abbrev pub IsNotRemoved : Refusal → List ℕ → Located → Located → Type 0
 IsNotRemoved refusal text root node = IsNotCutOut refusal text root node (cut_of text node)
 
--- the place of a node of a kind that is put into a gap
+-- the range of a node of a kind that is written into a gap
 abbrev pub node_range_in : Gap → SyntaxKind → List ℕ → NodeRange
 node_range_in gap kind new = node_range_at kind (gap.start + length gap.before) new
 
--- the text with a new text in a gap: the root of its tree satisfies `so`, and the new node of the kind is the one that its text is alone
+-- the text with a new text in a gap: the root of its tree satisfies `so`, and the new node of the kind is the one as which its text is parsed alone
 abbrev pub IsFilled : (Gap → Located → Type 0) → SyntaxKind → List ℕ → List ℕ → Gap → List ℕ → Type 0
 IsFilled so kind text new gap made =
     IsMade text gap.start gap.end (put_in gap new) (Both (so gap) (IsAsAlone new (node_range_in gap kind new))) made
@@ -145,7 +145,7 @@ abbrev pub IsNotFilled : (Gap → Located → Type 0) → SyntaxKind → Refusal
 IsNotFilled so kind refusal text new gap =
     IsNotMade refusal text gap.start gap.end (put_in gap new) (so gap) (IsUnlikeAlone new (node_range_in gap kind new))
 
--- the root is that of the tree with what is put into a gap: one node of a kind, right after the other one and the comments up to the gap
+-- the tree of the root is the old one with the contents of a gap: one node of a kind, directly after a node and the comments before the gap
 abbrev pub IsTreeAfter : Located → Located → SyntaxKind → List ℕ → Gap → Located → Type 0
 IsTreeAfter root node kind new gap other = IsAfter root (node_range_of node) gap.comments other (node_range_in gap kind new)
 
@@ -157,7 +157,7 @@ IsInsertedAfter text root node kind new made = IsFilled (IsTreeAfter root node k
 abbrev pub IsNotInsertedAfter : Refusal → List ℕ → Located → Located → SyntaxKind → List ℕ → Type 0
 IsNotInsertedAfter refusal text root node kind new = IsNotFilled (IsTreeAfter root node kind new) kind refusal text new (gap_after text node)
 
--- the root is that of the tree with what is put into a gap: one node of a kind, right before the last token of the other one
+-- the tree of the root is the old one with the contents of a gap: one node of a kind, directly before the last token of a node
 abbrev pub IsTreeInside : Located → Located → SyntaxKind → List ℕ → Gap → Located → Type 0
 IsTreeInside root node kind new gap other = IsLastIn root (node_range_of node) other (node_range_in gap kind new)
 
@@ -169,12 +169,12 @@ IsInsertedInside text root node kind new made = IsFilled (IsTreeInside root node
 abbrev pub IsNotInsertedInside : Refusal → List ℕ → Located → Located → SyntaxKind → List ℕ → Type 0
 IsNotInsertedInside refusal text root node kind new = IsNotFilled (IsTreeInside root node kind new) kind refusal text new (gap_inside text node)
 
--- P holds of the new text, if there is one
+-- P holds for the new text, if there is one
 abbrev pub IfDone : (List ℕ → Type 0) → Edited → Type 0
 IfDone P (edited.Done made) = P (string_bytes made)
 IfDone P (edited.Refused refusal) = Unit {0}
 
--- P holds of the refusal, if there is one
+-- P holds for the refusal, if there is one
 abbrev pub IfRefused : (Refusal → Type 0) → Edited → Type 0
 IfRefused P (edited.Done made) = Unit {0}
 IfRefused P (edited.Refused refusal) = P refusal

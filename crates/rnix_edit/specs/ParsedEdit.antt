@@ -36,11 +36,11 @@ abbrev pub IfRead : List ℕ → ParsedEdit → Type 0
 IfRead text (parsed_edit.Read made read) = (string_bytes made ≡ text) × IsReadAs text read
 IfRead text (parsed_edit.Refused refusal) = Unit {0}
 
--- P holds of the refusal, if there is one
+-- P holds for the refusal, if there is one
 abbrev pub IfNotRead : (Refusal → Type 0) → ParsedEdit → Type 0
 IfNotRead P (parsed_edit.Read made read) = Unit {0}
 IfNotRead P (parsed_edit.Refused refusal) = P refusal
 
--- a gap that the program found
+-- the gap, as a value of the program
 abbrev pub gap_of : Found → Gap
 gap_of gap = record { start = gap.start; end = gap.end; before = string_bytes gap.before; after = gap.after.now; comments = gap.comments }

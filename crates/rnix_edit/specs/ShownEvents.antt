@@ -1,4 +1,4 @@
--- What two walks show of their events, compared.
+-- What the events of two walks show, compared.
 use Rattle.std.specs.Prelude.{◌&&◌, Bool}
 use Rattle.std.specs.Bool.{beq}
 use Rattle.std.specs.Str.{bytes_eq}
@@ -6,7 +6,7 @@ use Rattle.rnix_green.specs.Equality.{same_kind}
 use Rattle.rnix_tree.specs.WalksAlike.{Shown}
 use Rattle.rnix_edit.specs.declared.same_tree.ElementEvent.{ElementEvent}
 
--- what an event of the program shows
+-- what an event in the program shows
 abbrev pub shown_by : ElementEvent → Shown
 shown_by event = record { enters = event.enters; is_node = event.is_node; kind = event.kind; text = event.text.now }
 

@@ -1,4 +1,4 @@
-//! A new node, compared with the node that its text is alone.
+//! A new node, compared with the node as which its text is parsed alone.
 
 ghost use Rattle.std.specs.Prelude.{◌≡◌, true, false, string_bytes, IfOk};
 ghost use Rattle.std.specs.Bool.{Decides};
@@ -16,7 +16,7 @@ use rnix::ast::{AstNode, Entry, Expr};
 use rnix::{Parse, Root, SyntaxKind, SyntaxNode};
 use std::alloc::{AllocError, Global};
 
-// Returns whether a text is a name of attributes, arguments or parameters, and no expression.
+// Returns whether a text is a name of attributes, arguments or parameters, but not an expression.
 fn is_only_name(text: &str) -> bool
     ensures { result ≡ is_only_name text.now }
 {
@@ -34,14 +34,14 @@ fn is_readable(kind: SyntaxKind, new: &str) -> bool
     }
 }
 
-// Returns what precedes the text of a node where it is read alone.
+// Returns what precedes the text of a node when it is parsed alone.
 fn alone_before(kind: SyntaxKind) -> &'static str
     ensures { result.now ≡ alone_before kind }
 {
     if Entry::can_cast(kind) { "{" } else { "" }
 }
 
-// Returns what follows the text of a node where it is read alone.
+// Returns what follows the text of a node when it is parsed alone.
 fn alone_after(kind: SyntaxKind) -> &'static str
     ensures { result.now ≡ alone_after kind }
 {
@@ -56,7 +56,7 @@ fn read_alone(alloc: Global, kind: SyntaxKind, new: &str) -> Result<Parse, Alloc
     Root::parse(alloc, text.as_str())
 }
 
-// Returns the range of a node in its text as it is read alone.
+// Returns the range of a node in the text that is parsed for it alone.
 fn alone_range(target: NodeRange) -> NodeRange
     ensures { result ≡ alone_range target }
 {
@@ -80,7 +80,7 @@ fn node_at<'t>(root: &SyntaxNode<'t>, target: NodeRange) -> Option<SyntaxNode<'t
     None
 }
 
-// Returns whether two trees have nodes at two ranges, and these are the same.
+// Returns whether two trees have nodes at two ranges, and these nodes are equal.
 fn are_same(
     root: &SyntaxNode<'_>,
     target: NodeRange,
@@ -98,7 +98,7 @@ fn are_same(
     is_same_tree(&node, &own)
 }
 
-// Returns whether a text that was read alone has no errors, and its node is the one at a range of a tree.
+// Returns whether a text that was parsed alone has no errors, and its node is the one at a range of a tree.
 fn is_same_node(root: &SyntaxNode<'_>, target: NodeRange, read: &Parse) -> bool
     ensures { Decides result (IsSameNode target root.now read.now) }
 {
@@ -108,7 +108,7 @@ fn is_same_node(root: &SyntaxNode<'_>, target: NodeRange, read: &Parse) -> bool
     are_same(root, target, &read.syntax(), alone_range(target))
 }
 
-// Returns whether the node at a range of a tree is the node that its text is alone, if it is an expression or an entry.
+// Returns whether the node at a range of a tree is the one as which its text is parsed alone, if it is an expression or an entry.
 fn is_as_alone(
     alloc: Global,
     root: &SyntaxNode<'_>,
@@ -125,7 +125,7 @@ fn is_as_alone(
     Ok(is_same_node(root, target, &read))
 }
 
-/// Returns the text that an edit made, unless its new node, at a range of the new tree, differs from the node that the new text is alone.
+/// Returns the text that an edit made, unless its new node, at a range of the new tree, differs from the node as which the new text is parsed alone.
 pub fn kept_if_alike(
     alloc: Global,
     made: String,

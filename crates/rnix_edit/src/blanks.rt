@@ -1,4 +1,4 @@
-//! Blanks and line breaks of a text.
+//! Blanks and line breaks in a text.
 
 ghost use Rattle.std.specs.Prelude.{◌≡◌, ◌≤◌, length, slice_index};
 ghost use Rattle.std.specs.List.{prefix_len};
@@ -57,7 +57,7 @@ fn has_blank_before(text: &str, offset: usize) -> bool
     is_blank(byte_before(text, offset))
 }
 
-/// Returns where the blanks before an offset begin.
+/// Returns the start of the blanks before an offset.
 pub fn blanks_start(text: &str, offset: usize) -> usize
     ensures { result ≡ blanks_start text.now offset }
 {
@@ -91,7 +91,7 @@ fn blanks_len(bytes: &[u8]) -> usize
     end
 }
 
-/// Returns where the blanks after an offset end.
+/// Returns the end of the blanks after an offset.
 pub fn blanks_end(text: &str, offset: usize) -> usize
     ensures { result ≡ blanks_end text.now offset }
 {

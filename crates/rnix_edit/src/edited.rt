@@ -7,9 +7,9 @@ pub enum Refusal {
     NotInText,
     /// The new text has errors.
     HasErrors,
-    /// The new text parses differently around the edited place.
+    /// The new text parses differently around the edited range.
     ReadOtherwise,
-    /// The new node is read in another way than its text alone.
+    /// The new node is parsed differently from its text alone.
     NodeReadOtherwise,
 }
 

@@ -1,10 +1,10 @@
-//! Joined texts.
+//! Concatenated texts.
 
 ghost use Rattle.std.specs.Prelude.{◌≡◌, ◌++◌, string_bytes, IfOk};
 
 use std::alloc::{AllocError, Global};
 
-/// Returns three texts, joined.
+/// Returns the concatenation of three texts.
 pub fn joined(alloc: Global, before: &str, new: &str, after: &str) -> Result<String, AllocError>
     ensures { IfOk result (λ text. string_bytes text ≡ before.now ++ (new.now ++ after.now)) }
 {

@@ -1,4 +1,4 @@
-//! Edits of a text by its nodes: each is refused unless the new text, parsed again, has the old tree around the edited place, and there the new node.
+//! Edits of a text by its nodes. Each is refused unless the new text, parsed again, has the old tree around the edited range, and the new node there.
 #![tactic(auto)]
 
 mod alone;

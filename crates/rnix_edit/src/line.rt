@@ -20,14 +20,14 @@ pub struct RestOfLine {
     pub end: usize,
 }
 
-/// How an element counts for the rest of a line.
+/// How an element affects the rest of a line.
 #[derive(Clone, Copy)]
 pub enum Part {
     /// White space within the line.
     Blanks,
     /// White space with a line feed, and the start of the next line.
     LineBreak(usize),
-    /// A comment of one line.
+    /// A comment on one line.
     Comment,
     Other,
 }
@@ -40,7 +40,7 @@ fn second_line(token: &SyntaxToken<'_>) -> Option<usize>
     Some(token.text_range().end().saturating_sub(rest.len()))
 }
 
-// Returns how a token counts for the line, given its kind and the start of its second line.
+// Returns how a token affects the rest of its line, given its kind and the start of its second line.
 fn token_part(kind: SyntaxKind, next_line: Option<usize>) -> Part
     ensures { result ≡ token_part kind next_line }
 {
@@ -64,7 +64,7 @@ fn token_part(kind: SyntaxKind, next_line: Option<usize>) -> Part
     }
 }
 
-// Returns how an element counts for the line.
+// Returns how an element affects the rest of its line.
 fn part_of(element: &SyntaxElement<'_>) -> Part
     ensures { result ≡ part_of (spot_of element.now) }
 {

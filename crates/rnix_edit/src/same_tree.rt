@@ -1,4 +1,4 @@
-//! Whether two nodes are the same, with all that is inside them.
+//! Whether two nodes are equal, with everything inside them.
 
 ghost use Rattle.std.specs.Prelude.{◌≡◌, true, false, map};
 ghost use Rattle.std.specs.Bool.{Decides};
@@ -8,7 +8,7 @@ ghost use Rattle.rnix_edit.specs.ShownEvents.{shown_by, same_shown};
 
 use rnix::{NodeOrToken, PreorderWithTokens, SyntaxElement, SyntaxKind, SyntaxNode, WalkEvent};
 
-/// What an event of a walk shows: whether its element is entered, whether that is a node, its kind, and the text of a token.
+/// What an event of a walk shows: whether its element is entered, whether the element is a node, its kind, and the text of a token.
 #[derive(Clone, Copy)]
 pub struct ElementEvent<'t> {
     pub enters: bool,
@@ -17,7 +17,7 @@ pub struct ElementEvent<'t> {
     pub text: &'t str,
 }
 
-// Returns what an event shows whose element is entered or left.
+// Returns what an event shows that enters or leaves an element.
 fn shown_element<'t>(element: &SyntaxElement<'t>, enters: bool) -> ElementEvent<'t>
     ensures { shown_by result ≡ shown_of (enters, spot_of element.now) }
 {
@@ -62,7 +62,7 @@ fn shows_same(event: &WalkEvent<SyntaxElement<'_>>, other: &WalkEvent<SyntaxElem
 }
 
 // Returns whether two walks show the same.
-// What is alike is passed in one step.
+// Equal parts are passed in one step.
 fn are_alike<'t>(mut a: PreorderWithTokens<'t>, mut b: PreorderWithTokens<'t>) -> bool
     ensures { Decides result (map shown_of a.entry ≡ map shown_of b.entry) }
 {
@@ -78,7 +78,7 @@ fn are_alike<'t>(mut a: PreorderWithTokens<'t>, mut b: PreorderWithTokens<'t>) -
     b.next().is_none()
 }
 
-/// Returns whether two nodes are the same, with all that is inside them.
+/// Returns whether two nodes are equal, with everything inside them.
 pub fn is_same_tree(node: &SyntaxNode<'_>, other: &SyntaxNode<'_>) -> bool
     ensures { Decides result (part_at node.now ≡ part_at other.now) }
 {

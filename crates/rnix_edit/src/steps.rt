@@ -23,7 +23,7 @@ pub struct Step<'t> {
     pub text: &'t str,
 }
 
-// Returns the step of a token, if it is not white space.
+// Returns the step of a token, unless it is white space.
 fn token_step<'t>(token: &SyntaxToken<'t>) -> Option<Step<'t>>
     ensures { MatchOption result (token_steps (item_of token.now).kind (text_at token.now) ≡ [])
         (λ step. token_steps (item_of token.now).kind (text_at token.now) ≡ step_of step ∷ []) }
@@ -39,7 +39,7 @@ fn token_step<'t>(token: &SyntaxToken<'t>) -> Option<Step<'t>>
     })
 }
 
-// Returns the step of a node that is entered or left.
+// Returns the step of entering or leaving a node.
 fn node_step<'t>(node: &SyntaxNode<'t>, enters: bool) -> Step<'t>
     ensures { step_of result ≡ node_step enters (item_of node.now).kind }
 {
@@ -50,7 +50,7 @@ fn node_step<'t>(node: &SyntaxNode<'t>, enters: bool) -> Step<'t>
     }
 }
 
-// Returns whether an event enters the node of a range.
+// Returns whether an event enters the node with a range.
 fn enters(event: &WalkEvent<SyntaxElement<'_>>, target: NodeRange) -> bool
     ensures { result ≡ enters target (event_of event.now) }
 {
@@ -60,7 +60,7 @@ fn enters(event: &WalkEvent<SyntaxElement<'_>>, target: NodeRange) -> bool
     }
 }
 
-// Returns whether an event leaves the node of a range.
+// Returns whether an event leaves the node with a range.
 fn leaves(event: &WalkEvent<SyntaxElement<'_>>, target: NodeRange) -> bool
     ensures { result ≡ leaves target (event_of event.now) }
 {
@@ -70,7 +70,7 @@ fn leaves(event: &WalkEvent<SyntaxElement<'_>>, target: NodeRange) -> bool
     }
 }
 
-/// Takes the events up to the one that leaves the node of a range, and returns whether there is one.
+/// Takes the events up to the one that leaves the node with a range, and returns whether there is one.
 pub fn skip_node(events: &mut PreorderWithTokens<'_>, target: NodeRange) -> bool
     ensures rest { events.new ≡ events_after target events.old }
     ensures found { result ≡ is_exited target events.old }
@@ -127,7 +127,7 @@ fn next_step<'t>(events: &mut PreorderWithTokens<'t>) -> Option<Step<'t>>
     None
 }
 
-// Takes the next step of a walk before the node of a range, if there is one. If not, the walk has then entered that node, or has ended.
+// Takes the next step of a walk before the node with a range, if there is one. If not, the walk has then entered that node, or has ended.
 fn next_before<'t>(events: &mut PreorderWithTokens<'t>, target: NodeRange) -> Option<Step<'t>>
     ensures steps { MatchOption result (steps_of (events_before target events.old) ≡ [])
         (λ step. steps_of (events_before target events.old) ≡ step_of step ∷ steps_of (events_before target events.new)) }
@@ -152,7 +152,7 @@ fn is_step<'t>(a: Step<'t>, b: Step<'t>) -> bool
     a == b
 }
 
-// Returns whether no step is left.
+// Returns whether no step remains.
 fn are_done(mut events: PreorderWithTokens<'_>) -> bool
     ensures { Decides result (steps_of events.entry ≡ []) }
 {
@@ -162,7 +162,7 @@ fn are_done(mut events: PreorderWithTokens<'_>) -> bool
     }
 }
 
-// Passes the siblings that walk `a` enters next and that end before an offset, if walk `b` has the same ones before another offset. Makes no attempt after
+// Passes the siblings that walk `a` enters next and that end before an offset, if walk `b` has equal ones before another offset. Makes no attempt after
 // too many have failed. Returns the number of failed attempts.
 fn try_pass(
     a: &mut PreorderWithTokens<'_>,
@@ -185,8 +185,8 @@ fn try_pass(
     }
 }
 
-/// Returns whether the remaining steps of two walks are the same.
-// Passes alike siblings together, which is faster than entering and leaving each of them in both walks.
+/// Returns whether the remaining steps of two walks are equal.
+// Passes equal siblings together, which is faster than entering and leaving each of them in both walks.
 pub fn are_same_walks<'t>(mut a: PreorderWithTokens<'t>, mut b: PreorderWithTokens<'t>) -> bool
     ensures { Decides result (steps_of a.entry ≡ steps_of b.entry) }
 {
@@ -203,7 +203,7 @@ pub fn are_same_walks<'t>(mut a: PreorderWithTokens<'t>, mut b: PreorderWithToke
     are_done(b)
 }
 
-/// Returns whether two walks have the same steps before the nodes of two ranges. If so, both walks have then entered these nodes, or have ended.
+/// Returns whether two walks have the same steps before the nodes with two ranges. If so, both walks have then entered these nodes, or have ended.
 pub fn are_same_before(
     events: &mut PreorderWithTokens<'_>,
     old: NodeRange,
@@ -227,9 +227,9 @@ pub fn are_same_before(
     next_before(events, old).is_none()
 }
 
-/// Takes the steps of `wanted` before the node of a range from both walks, if `events` begins with them, and returns whether it does. If so, `wanted` has
+/// Takes the steps of `wanted` before the node with a range from both walks, if `events` begins with them, and returns whether it does. If so, `wanted` has
 /// then entered the node, or has ended.
-// Passes alike siblings together.
+// Passes equal siblings together.
 pub fn begins_before(
     events: &mut PreorderWithTokens<'_>,
     wanted: &mut PreorderWithTokens<'_>,

@@ -1,4 +1,4 @@
--- Lines that a walk prints.
+-- The lines that a walk prints.
 use Rattle.std.proofs.Common.{◌≡◌, ℕ, ◌+◌, ◌*◌, ◌≤◌, false, nat_lt, List, ◌∷◌, ◌++◌, take, refl, ap, sym, ◌∙◌, arith, append_assoc}
 use Rattle.{std.{proofs.lemmas.Bool.Decides.nat_tests, specs.Prelude.{decimal, codes, if◌then◌else◌}}, rnix_green.specs.{Tree.Located, Walk.Event}}
 use Rattle.rnix_tree.specs.{Spots.{event_of, spot_of, located_of}, declared.element.{NodeOrToken.{NodeOrToken, TheVariants.{Node, Token}}, WalkEvent.WalkEvent}}
@@ -11,7 +11,7 @@ margin_spaces depth h =
     let low : nat_lt 100 depth ≡ false = grind (arith, nat_tests) in
     indent_front depth 100 h ∙ sym (ap (λ b. if b then decimal depth ++ codes " " else indent depth) low)
 
--- the spot of an element has its place
+-- the spot of an element is that of the element's location
 located_is : (e : NodeOrToken Located Located) → (spot_of e).1 ≡ located_of e
 located_is (Node e) = refl
 located_is (Token e) = refl

@@ -1,4 +1,4 @@
--- What reading does to the bytes that a reader has left.
+-- How reading changes the bytes that remain in a reader.
 use Rattle.std.specs.Prelude.{◌≡◌, ℕ, List, ◌++◌, Option}
 use Rattle.std.specs.Io.KnownBytes.{Consumes}
 

@@ -1,4 +1,4 @@
--- How a run ends: its status, and what is said of a run that was refused.
+-- How a run ends: its exit status, and the message if it was refused.
 use Rattle.std.specs.Prelude.{ℕ, List, codes, Bool, true, false, Result, Ok, Err}
 use Rattle.rnix_print.specs.declared.outcome.RunError.{RunError}
 use Rattle.rnix_print.specs.declared.outcome.RunError.TheVariants.{Read, NotUtf8, Write, Memory}
@@ -9,7 +9,7 @@ status_of (Ok true) = 0
 status_of (Ok false) = 1
 status_of (Err error) = 2
 
--- what is said of a run that was refused
+-- the message of a run that was refused
 abbrev pub message_of : RunError → List ℕ
 message_of Read = codes "nix-tree: cannot read input"
 message_of NotUtf8 = codes "nix-tree: input is not UTF-8"

@@ -1,4 +1,4 @@
--- The lines that are printed of a text: of its errors, and of its tree.
+-- The lines that are printed for a text: those of its errors, and those of its tree.
 use Rattle.std.specs.Prelude.{ℕ, ◌+◌, ◌-◌, true, false, nat_lt, List, [], ◌∷◌, ◌++◌, codes, decimal, if◌then◌else◌}
 use Rattle.std.specs.List.{flat_map}
 use Rattle.rnix_kinds.specs.SyntaxKind.{name_of}
@@ -15,7 +15,7 @@ error_line fault = codes "error: " ++ fault_text fault ++ codes "\n"
 abbrev pub error_lines : List Fault → List ℕ
 error_lines = flat_map error_line
 
--- how an element's line begins: with two spaces for each level, and deeper than 100 levels with the number of its level
+-- the beginning of an element's line: two spaces for each level; at more than 100 levels, the number of the level follows
 abbrev pub margin : ℕ → List ℕ
 margin depth = if nat_lt 100 depth then decimal depth ++ codes " " else indent depth
 
@@ -23,16 +23,16 @@ margin depth = if nat_lt 100 depth then decimal depth ++ codes " " else indent d
 abbrev pub element_line : ℕ → Located → List ℕ
 element_line depth e = margin depth ++ name_of (item_of e).kind ++ range_end (extent_of e)
 
--- the lines of a walk from a level on: one for each element that is entered, and those after it are one deeper until it is left
+-- the lines of a walk that starts at a level: one for each element that is entered; the lines inside an element are one level deeper
 abbrev pub walk_lines : ℕ → List Event → List ℕ
 walk_lines depth [] = []
 walk_lines depth ((true, spot) ∷ events) = element_line depth spot.1 ++ walk_lines (depth + 1) events
 walk_lines depth ((false, spot) ∷ events) = walk_lines (depth - 1) events
 
--- the lines of an element and of what is inside it, where the element itself is not indented
+-- the lines of an element and of everything inside it, where the element itself is not indented
 abbrev pub tree_lines : Located → List ℕ
 tree_lines e = walk_lines 0 (preorder_of e)
 
--- what is printed of a text: the lines of its errors, and those of its tree
+-- the output for a text: the lines of its errors, and those of its tree
 abbrev pub output : Tree → List Fault → List ℕ
 output tree faults = error_lines faults ++ tree_lines record { tree = tree; number = 0 }

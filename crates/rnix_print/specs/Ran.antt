@@ -7,11 +7,11 @@ use Rattle.rnix_grammar.specs.Fault.{Fault}
 use Rattle.rnix_grammar.specs.Parsed.{IsParsed}
 use Rattle.rnix_print.specs.OutputLines.{output}
 
--- the bytes that were left, where they are known, are not UTF-8
+-- the remaining bytes, if they are known, are not UTF-8
 abbrev pub IsNotUtf8 : Option (List ℕ) → Type 0
 IsNotUtf8 remaining = IfSome remaining (λ all. ¬ IsUtf8 all)
 
--- the text that was left is read, and the lines of its errors and of its tree are printed
+-- the remaining text is read, and the lines of its errors and of its tree are printed
 pub record HasRun (remaining : Option (List ℕ)) (good : Bool) (old new : Option (List ℕ)) : Type 0 where
   pub text : List ℕ
   pub text_is : IfSome remaining (λ all. text ≡ all)

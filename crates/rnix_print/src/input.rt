@@ -13,7 +13,7 @@ use std::io::{ErrorKind, Read};
 // The number of bytes that one read asks for.
 const CHUNK: usize = 4096;
 
-// Reads once, and appends the bytes. Returns whether the input has ended, which is not so after an interrupted read.
+// Reads once, and appends the bytes. Returns whether the input has ended; after an interrupted read it has not.
 fn read_more<R: Read>(input: &mut R, bytes: &mut Vec<u8>) -> Result<bool, RunError>
     ensures moved { OnOk result (HasMoved (R.remaining input.old) (R.remaining input.new) bytes.old.items bytes.new.items) }
     ensures ended { IfOk result (λ ended. IsTrue ended → IsAtEnd (R.remaining input.new)) }

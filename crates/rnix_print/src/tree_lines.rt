@@ -36,7 +36,7 @@ fn write_line<W: Write>(element: &SyntaxElement<'_>, depth: usize, out: &mut W) 
 }
 
 /// Prints the node and everything inside it, in preorder, one line for each element, as `dump` does. Lines deeper than 100 levels begin with the number of the
-/// level in place of spaces.
+/// level instead of spaces.
 pub(crate) fn write_tree<W: Write>(node: &SyntaxNode<'_>, out: &mut W) -> io::Result<()>
     ensures { OnOk result (Appends (W.contents out.old) (W.contents out.new) (tree_lines node.now)) }
 {

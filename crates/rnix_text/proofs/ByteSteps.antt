@@ -4,12 +4,12 @@ use Rattle.std.{proofs.lemmas.Bool.{eqb-true, not-true, and_parts, Decides.nat_t
 use Rattle.rnix_text.specs.{declared.line_column.{ColumnUnit.{ColumnUnit, TheVariants.{Bytes, Chars, Utf16}}, Position.Position, Mark.Mark}, Positions.newline}
 use Rattle.rnix_text.specs.{Positions.{weight, step}, Marks.{is_plain, is_up_to}}
 
--- a position is at another one, or before it
+-- a position is at or before another one
 pub record IsUpTo (p q : Position) : Type 0 where
   pub line : p.line ≤ q.line
   pub column : p.line ≡ q.line → p.column ≤ q.column
 
--- the test of it
+-- the test whether a mark is at or before a position
 pub up_to_true : (q : Position) (m : Mark) → is_up_to q m ≡ true → IsUpTo m.position q
 up_to_true q m h = record { line = grind (arith, nat_tests); column = λ e. grind (arith, nat_tests) }
 
@@ -56,12 +56,12 @@ up_trans p q r a b = record {
 pub up_same : (p : Position) → IsUpTo p p
 up_same p = record { line = omega arith; column = λ e. omega arith }
 
--- neither do several bytes
+-- nor do several bytes
 pub fold_up : (unit : ColumnUnit) (bs : List ℕ) (p : Position) → IsUpTo p (fold (step unit) p bs)
 fold_up unit [] p = up_same p
 fold_up unit (b ∷ bs) p = up_trans p (step unit p b) _ (step_up unit p b) (fold_up unit bs (step unit p b))
 
--- the first byte of a character, and a newline, increase a position
+-- the first byte of a character increases a position, and so does a newline
 pub first_passes : (unit : ColumnUnit) (p : Position) (b : ℕ) → (128 ≤ b → 192 ≤ b) → IsUpTo (step unit p b) p → ⊥
 first_passes unit p b h = newline_cases (b == newline)
   where

@@ -1,4 +1,4 @@
--- Changes in order: the changes around a position, and adding another one there.
+-- Changes in order: the changes around an offset, and adding another one there.
 use Rattle.std.proofs.Common.{◌≡◌, ℕ, zero, suc, ◌≤◌, ◌<◌, List, [], ◌∷◌, ◌++◌, length, map, get_or, true, false, refl, ap, sym, subst, arith}
 use Rattle.std.{proofs.lemmas.{Bool.Decides.nat_tests, List.map-append}, specs.List.{All, insert, Sorted.IsPartitionedBy}}
 use Rattle.rnix_text.specs.{Runs.{ends_by, end_of}, declared.edits.Edit.Edit, Edit.change_of, Changes.{Change, AreAscending, AreInOrder, IsBetween, Overlaps, IsAdded, HasOverlap, changed_from}}
@@ -64,7 +64,7 @@ after_first n c (x ∷ xs) h o first =
     cons_all (λ x. (c.start < x.end) × (c.end ≤ x.start)) x xs f (λ k d l. let s =
     starts x.end xs h.2 k d l in (omega (arith, f.0, s.0, s.1), omega (arith, f.1, h.1, s.0)))
 
--- an edit is added after those that end where it begins or before
+-- an edit is added after those that end at or before its start
 pub added_at : (n : ℕ) (es : List Edit) (at : ℕ) (e : Edit) → AreAscending n (map change_of es) → at ≤ length es → e.start ≤ e.end
     → ((k : ℕ) (d : Edit) → k < at → (get_or es k d).end ≤ e.start)
     → ((d : Edit) → at < length es → (e.start < (get_or es at d).end) × (e.end ≤ (get_or es at d).start))
@@ -120,13 +120,13 @@ in_order_low : (text : List ℕ) (n : ℕ) (cs : List Change) → AreInOrder tex
 in_order_low text n [] h = h
 in_order_low text n (c ∷ cs) h = omega (arith, h.0, h.1, in_order_low text c.end cs h.3)
 
--- if two joined lists of edits are in order, so are both
+-- if two concatenated lists of edits are in order, so is each of them
 pub in_order_parts : (text : List ℕ) (n : ℕ) (xs ys : List Edit) → AreInOrder text n (map change_of (xs ++ ys))
     → AreInOrder text n (map change_of xs) × AreInOrder text (end_of n xs) (map change_of ys)
 in_order_parts text n [] ys h = (in_order_low text n (map change_of ys) h, h)
 in_order_parts text n (x ∷ xs) ys h = let p = in_order_parts text x.end xs ys h.3 in ((h.0, h.1, h.2, p.0), p.1)
 
--- the text with two joined lists of edits
+-- the text after two concatenated lists of edits
 pub changed_parts : (n : ℕ) (xs ys : List Edit) (text : List ℕ)
     → changed_from n (map change_of (xs ++ ys)) text ≡ changed_from n (map change_of xs ++ map change_of ys) text
 changed_parts n xs ys text = ap (λ cs. changed_from n cs text) (map-append change_of xs ys)

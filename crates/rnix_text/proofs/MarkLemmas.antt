@@ -1,4 +1,4 @@
--- Marks that pass a test that every earlier mark passes if a later one does.
+-- A test of marks that every mark before a passing one passes.
 use Rattle.std.proofs.Common.{◌≡◌, ℕ, zero, suc, ◌-◌, ◌≤◌, ◌<◌, ◌⊎◌, inl, inr, List, [], ◌∷◌, length, get_or, Bool, true, false, refl, ap, sym, ◌∙◌, subst}
 use Rattle.std.{proofs.{Common.arith, lemmas.Bool.{false_from_ne_true, both_ways}}, specs.{Prelude.if◌then◌else◌, List.Sorted.IsPartitionedBy}}
 use Rattle.{std.specs.List.Sorted.IsPartitionPoint, rnix_text.specs.{declared.line_column.{ColumnUnit.ColumnUnit, Mark.Mark}, Marks.{is_plain, first_mark}}}

@@ -51,7 +51,7 @@ module _ (v : Vec Edit Global) where
     divided_filled (r ∷ rs) zero l f s t = (s, (t, f.1))
     divided_filled (r ∷ rs) (suc i) l f s t = (f.0, divided_filled rs i (omega (arith, l)) f.1 s t)
 
-    -- before the second part are the runs before the first, and the first
+    -- before the second half come the runs before the split one, and its first half
     pub divided_front : (runs : List (Vec Edit Global)) (i : ℕ) → i < length runs → take i (insert (slice_set runs i v) (suc i) w) ≡ take i runs
     divided_front [] i l = absurd (omega (arith, l))
     divided_front (r ∷ rs) zero l = refl
@@ -96,7 +96,7 @@ filled_at [] i d f l = absurd (omega (arith, l))
 filled_at (r ∷ rs) zero d f l = f.0
 filled_at (r ∷ rs) (suc i) d f l = filled_at rs i d f.1 (omega (arith, l))
 
--- if two joined lists of edits are ascending, so are both, and the first ends before the second begins
+-- if two concatenated lists of edits are ascending, so is each of them, and the first ends before the second begins
 pub ascending_parts : (n : ℕ) (xs ys : List Edit) → AreAscending n (map change_of (xs ++ ys))
     → AreAscending n (map change_of xs) × AreAscending (end_of n xs) (map change_of ys)
 ascending_parts n [] ys h = (tt, h)
@@ -115,7 +115,7 @@ ends_by_last n [] h k d l = absurd (omega (arith, l))
 ends_by_last n (x ∷ xs) h zero d l = end_from x.end xs h.2
 ends_by_last n (x ∷ xs) h (suc k) d l = ends_by_last x.end xs h.2 k d (omega (arith, l))
 
--- where the last edit ends does not depend on what precedes the edits
+-- the end of the last edit does not depend on what precedes the edits
 end_anywhere : (m n : ℕ) (xs : List Edit) → 0 < length xs → end_of m xs ≡ end_of n xs
 end_anywhere m n [] s = absurd (omega (arith, s))
 end_anywhere m n (x ∷ xs) s = refl

@@ -1,4 +1,4 @@
--- The values of the definitions for certain texts.
+-- The values of the definitions for certain texts, by computation.
 use Rattle.{std.proofs.Common.{◌≡◌, ℕ, List, [], ◌∷◌, codes, refl}, rnix_text.specs.declared.line_column.ColumnUnit.TheVariants.{Bytes, Chars, Utf16}}
 use Rattle.rnix_text.specs.{Positions.position_at, Marks.{marks_of, first_mark}, Changes.changed_from}
 
@@ -6,7 +6,7 @@ use Rattle.rnix_text.specs.{Positions.position_at, Marks.{marks_of, first_mark},
 abbrev text : List ℕ
 text = 195 ∷ 169 ∷ 10 ∷ 240 ∷ 159 ∷ 152 ∷ 128 ∷ 120 ∷ []
 
--- a character of two bytes is one column in characters and in UTF-16
+-- a character of two bytes is two columns in bytes, and one column in characters and in UTF-16
 bytes_before_newline : position_at Bytes text 2 ≡ record { line = 0; column = 2 }
 bytes_before_newline = refl
 
@@ -20,7 +20,7 @@ units_before_newline = refl
 after_newline : position_at Utf16 text 3 ≡ record { line = 1; column = 0 }
 after_newline = refl
 
--- a character of four bytes is one column in characters and two in UTF-16
+-- a character of four bytes is one column in characters, and two in UTF-16
 bytes_after_pair : position_at Bytes text 7 ≡ record { line = 1; column = 4 }
 bytes_after_pair = refl
 

@@ -1,4 +1,4 @@
--- How a refusal of an edit is printed.
+-- How the refusal of an edit is printed.
 use Rattle.std.specs.Prelude.{ℕ, List, codes}
 use Rattle.rnix_text.specs.declared.edit_error.EditError.{EditError}
 use Rattle.rnix_text.specs.declared.edit_error.EditError.TheVariants.{OutOfText, InsideCharacter, Overlap, Memory}

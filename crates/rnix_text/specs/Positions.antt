@@ -26,10 +26,10 @@ step unit p b =
     if b == newline then record { line = p.line + 1; column = 0 }
     else record { line = p.line; column = p.column + weight unit b }
 
--- the position of an offset: where the bytes in front of it lead
+-- the position of an offset: the one after the bytes before the offset
 abbrev pub position_at : ColumnUnit → List ℕ → ℕ → Position
 position_at unit text offset = fold (step unit) origin (take offset text)
 
--- a character begins or ends at the offset, and the offset has the position
+-- a character begins or ends at the offset, and the offset has this position
 abbrev pub IsAt : ColumnUnit → List ℕ → Position → ℕ → Type 0
 IsAt unit text position offset = IsCharBoundary text offset × (position_at unit text offset ≡ position)

@@ -1,10 +1,10 @@
--- A text whose columns are counted in some unit.
+-- A text whose columns are counted in a unit.
 use Rattle.std.specs.Prelude.{ℕ, List, Bool}
 use Rattle.rnix_text.specs.declared.line_column.ColumnUnit.{ColumnUnit}
 use Rattle.rnix_text.specs.declared.line_column.Mark.{Mark}
 use Rattle.rnix_text.specs.Marks.{first_mark, marks_after, last_of}
 
--- a text, and what its columns count
+-- a text, and the unit of its columns
 pub record Counted : Type 0 where
   pub text : List ℕ
   pub unit : ColumnUnit

@@ -4,7 +4,7 @@ ghost use Rattle.std.specs.Prelude.{◌≡◌, ◌+◌, ◌-◌, ◌<◌, ◌≤
 ghost use Rattle.rnix_text.specs.Positions.{weight, step};
 ghost use Rattle.rnix_text.specs.Marks.{is_plain, first_mark, mark_after, position_after, is_up_to};
 
-/// The unit that columns count.
+/// The unit of columns.
 #[derive(Clone, Copy, PartialEq, Eq, Hash, Debug)]
 pub enum ColumnUnit {
     /// Bytes of UTF-8.
@@ -106,7 +106,7 @@ impl Mark {
         }
     }
 
-    // Returns whether the mark is at a position or before it.
+    // Returns whether the mark is at or before a position.
     pub(crate) fn is_up_to(self, position: Position) -> bool
         ensures { result ≡ is_up_to position self }
     {

@@ -55,7 +55,7 @@ impl<'t> LineIndex<'t> {
         Ok(LineIndex { text, unit, marks })
     }
 
-    // Returns the last mark at an offset or before it.
+    // Returns the last mark at or before an offset.
     fn mark_before(&self, offset: usize) -> Mark
         ensures { result ≡ last_mark (is_before offset) self.now }
     {
@@ -67,7 +67,7 @@ impl<'t> LineIndex<'t> {
         self.marks[after - 1]
     }
 
-    // Returns the last mark at a position or before it.
+    // Returns the last mark at or before a position.
     fn mark_up_to(&self, position: Position) -> Mark
         ensures mark { result ≡ last_mark (is_up_to position) self.now }
         ensures fits { length self.now.text < 2 ^ 63 }

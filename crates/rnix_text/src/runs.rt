@@ -23,7 +23,7 @@ pub(crate) enum InsertionPoint {
 
 // The greatest number of edits in a run.
 const MAX_EDITS: usize = 256;
-// The number of edits that stay in a run when it is divided.
+// The number of edits that stay in a run when it is split.
 const HALF: usize = 128;
 
 // Returns the end of the last edit of a run.
@@ -36,7 +36,7 @@ fn end_of(run: &[Edit]) -> usize
     }
 }
 
-// Returns the number of runs whose edits end at an offset or before it.
+// Returns the number of runs whose edits end at or before an offset.
 fn runs_by(runs: &[Vec<Edit>], offset: usize) -> usize
     requires ascending { AreAscending 0 (map change_of (edits_of runs.now)) }
     requires filled { AreFilled runs.now }
@@ -50,7 +50,7 @@ fn runs_by(runs: &[Vec<Edit>], offset: usize) -> usize
     )
 }
 
-// Returns the number of edits of a run that end at an offset or before it.
+// Returns the number of edits of a run that end at or before an offset.
 fn edits_by(run: &[Edit], offset: usize) -> usize
     requires { AreAscending 0 (map change_of run.now) }
     ensures bound { result ≤ length run.now }
@@ -63,7 +63,7 @@ fn edits_by(run: &[Edit], offset: usize) -> usize
     )
 }
 
-// Returns the position for an edit of a range: after the edits that end at its start or before it. Returns `None` if it overlaps another edit.
+// Returns the position for an edit of a range: after the edits that end at or before its start. Returns `None` if it overlaps another edit.
 pub(crate) fn insertion_point(
     runs: &[Vec<Edit>],
     start: usize,
@@ -130,7 +130,7 @@ fn add_last(runs: &mut Vec<Vec<Edit>>, edit: Edit) -> Result<(), AllocError>
     }
 }
 
-// Divides a run into two.
+// Splits a run into two.
 fn divide(runs: &mut Vec<Vec<Edit>>, run: usize) -> Result<(), AllocError>
     requires filled { AreFilled runs.old.items }
     requires is_in { IsIn runs.old.items (insertion.In run (HALF + 1)) }
@@ -144,7 +144,7 @@ fn divide(runs: &mut Vec<Vec<Edit>>, run: usize) -> Result<(), AllocError>
     Ok(())
 }
 
-// Puts an edit into a run, which is divided if it is full.
+// Puts an edit into a run, and splits the run if it is full.
 fn add_at(runs: &mut Vec<Vec<Edit>>, run: usize, at: usize, edit: Edit) -> Result<(), AllocError>
     requires filled { AreFilled runs.old.items }
     requires is_in { IsIn runs.old.items (insertion.In run at) }

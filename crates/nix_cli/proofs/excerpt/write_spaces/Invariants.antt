@@ -2,6 +2,6 @@ use Rattle.std.specs.{List.flat_map, Io.KnownBytes.Appends}
 use Rattle.nix_cli.specs.Excerpt.{spaces}
 use Rattle.nix_cli.proofs.excerpt.write_spaces.Given as goal
 
--- what stands for the characters so far is written
+-- the spaces below the characters so far are written
 abbrev pub invariant-loop-letter : goal.invariant-loop-letter
 invariant-loop-letter g l = Appends (g.W.Write.contents l.initial.out) (g.W.Write.contents l.out) (flat_map spaces l.yielded)

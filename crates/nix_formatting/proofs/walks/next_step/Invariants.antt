@@ -2,7 +2,7 @@ use Rattle.std.proofs.Common.{◌≡◌}
 use Rattle.nix_formatting.specs.WalkSteps.{steps_of}
 use Rattle.nix_formatting.proofs.walks.next_step.Given as goal
 
--- the steps of the events left are those of all events
+-- the remaining events have the same steps as all events
 abbrev pub invariant-loop-event : goal.invariant-loop-event
 invariant-loop-event l = record {
   next : (goal.iterator-loop-event).can_next l.walk;

@@ -2,7 +2,7 @@ use Rattle.std.{proofs.Common.{◌≡◌}, specs.List.list_any}
 use Rattle.{rnix_base.specs.Select.{those_of, nodes_of}, rnix.specs.NodeKinds.is_attr, nix_update.specs.PathMatches.is_named}
 use Rattle.nix_update.proofs.path_match.inherit_match.Given as goal
 
--- the name is among the attributes that are left just if it is among all
+-- the name is among the remaining attributes exactly if it is among all
 abbrev pub invariant-loop-attr : goal.invariant-loop-attr
 invariant-loop-attr l = record {
   next : (goal.iterator-loop-attr).can_next l.attr-iterator;

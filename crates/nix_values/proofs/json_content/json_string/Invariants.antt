@@ -5,7 +5,7 @@ use Rattle.nix_values.proofs.JsonContentLemmas.{IsReadTo}
 use Rattle.nix_values.proofs.JsonStringErrorLemmas.{HasErrorIn}
 use Rattle.nix_values.proofs.json_content.json_string.Given as goal
 
--- what is read and what is left
+-- what has been read, and what remains
 abbrev pub invariant-loop-rest : goal.invariant-loop-rest
 invariant-loop-rest l = shadow (Utf8 l.rest) × IsReadTo l.text (string_bytes l.value) l.rest × HasErrorIn l.start l.text l.rest
 

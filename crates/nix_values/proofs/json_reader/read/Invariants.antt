@@ -5,7 +5,7 @@ use Rattle.nix_values.proofs.JsonReadLemmas.{IsReadUpTo}
 use Rattle.nix_values.proofs.JsonReadErrorLemmas.{StopsFrom, IsReadIn}
 use Rattle.nix_values.proofs.json_reader.read.Given as goal
 
--- the values so far are in front of those that the rest of the text means
+-- the values so far come before those that the rest of the text means
 abbrev pub invariant-loop-at : goal.invariant-loop-at
 invariant-loop-at l = record {
   within : l.at ≤ length l.text;

@@ -5,7 +5,7 @@ use Rattle.std.specs.List.{flat_map}
 use Rattle.nix_values.specs.JsonEscapes.{escape}
 use Rattle.nix_values.proofs.json_strings.push_json_string.Given as goal
 
--- what is written and what still comes
+-- what has been written, and what remains
 abbrev pub invariant-loop-rest : goal.invariant-loop-rest
 invariant-loop-rest l =
     shadow (Utf8 l.rest) × (string_bytes l.text ++ flat_map escape l.rest ≡ (string_bytes l.fn.text ++ codes "\"") ++ flat_map escape l.value)

@@ -2,7 +2,7 @@ use Rattle.std.{proofs.Common.{Option, Some, None, sym, ap, ◌∙◌}, specs.Pr
 use Rattle.{rnix_tree.specs.Spots.{spot_of}, rnix_c.proofs.ElementNumbers.{none_there, token_there, cast_found, cast_missing}}
 use Rattle.rnix_c.proofs.strings.string_at.Goals as goal
 
--- what holds anyway holds where there is none
+-- what holds in any case holds if there is no value
 anyway : {A P : Type 0} → (r : Option A) → P → IfNone r P
 anyway None p = p
 anyway (Some x) p = tt

@@ -2,7 +2,7 @@ use Rattle.std.proofs.Common.{◌≡◌, ◌+◌, ◌<◌, ◌^◌, length}
 use Rattle.rnix_edit.specs.Line.{rest_from, rest_of_line}
 use Rattle.rnix_edit.proofs.line.rest_of_line.Given as goal
 
--- what follows on the line is what follows after the comments so far
+-- what follows the node on its line is what follows the comments so far
 abbrev pub invariant-loop-element : goal.invariant-loop-element
 invariant-loop-element l = record {
   next : (goal.iterator-loop-element).can_next l.element-iterator;

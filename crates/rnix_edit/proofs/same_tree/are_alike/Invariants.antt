@@ -1,7 +1,7 @@
 use Rattle.rnix_edit.proofs.SameTreeLemmas.{ShowAlike}
 use Rattle.rnix_edit.proofs.same_tree.are_alike.Given as goal
 
--- what is left of the walks shows the same just if all of them does
+-- the remaining events of both walks show the same exactly if all events do
 abbrev pub invariant-loop-event : goal.invariant-loop-event
 invariant-loop-event l = record {
   next : (goal.iterator-loop-event).can_next l.a;

@@ -2,7 +2,7 @@ use Rattle.std.proofs.Common.{◌≡◌}
 use Rattle.rnix_edit.specs.Steps.{steps_of, events_before, events_inside}
 use Rattle.rnix_edit.proofs.steps.next_before.Given as goal
 
--- the steps of the events left are those of all, and the node is entered in both before the same events
+-- the remaining events have the same steps as all events before the node, and the events inside the node are unchanged
 abbrev pub invariant-loop-event : goal.invariant-loop-event
 invariant-loop-event l = record {
   next : (goal.iterator-loop-event).can_next l.events;

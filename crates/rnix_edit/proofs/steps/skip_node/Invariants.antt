@@ -2,7 +2,7 @@ use Rattle.std.proofs.Common.{◌≡◌}
 use Rattle.rnix_edit.specs.Steps.{events_after, is_exited}
 use Rattle.rnix_edit.proofs.steps.skip_node.Given as goal
 
--- the events after the node among those left are the events after it among all, and it is left in both or in none
+-- the remaining events have the same events after the node as all events, and leave the node exactly if all events do
 abbrev pub invariant-loop-event : goal.invariant-loop-event
 invariant-loop-event l = record {
   next : (goal.iterator-loop-event).can_next l.events;

@@ -2,7 +2,7 @@ use Rattle.{std.{proofs.Common.{◌≡◌, ℕ, List, ◌++◌, ◌+◌, ◌<◌
 use Rattle.{rnix_tree.specs.Walked.{entered_in, IsNested}, rnix_print.specs.OutputLines.walk_lines}
 use Rattle.rnix_print.proofs.tree_lines.write_tree.Given as goal
 
--- the lines so far and those of the events left are those of all events
+-- the lines so far, followed by those of the remaining events, are the lines of all events
 abbrev pub invariant-loop-event : goal.invariant-loop-event
 invariant-loop-event g l =
     (lines : List ℕ) × Appends (g.W.Write.contents l.initial.out) (g.W.Write.contents l.out) lines

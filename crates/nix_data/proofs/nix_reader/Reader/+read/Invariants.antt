@@ -10,7 +10,7 @@ use Rattle.nix_data.proofs.nix_reader.Reader.+read.Given as goal
 abbrev pub decreases-read : goal.decreases-read
 decreases-read l = l.levels
 
--- the children that are left have a token that Nix reads differently if any has one, and add the rest of the values of all
+-- if any child has a token that Nix reads differently, a remaining one has; the remaining children add the rest of the values
 abbrev pub invariant-loop-element : goal.invariant-loop-element
 invariant-loop-element l = record {
   next : (goal.iterator-loop-element).can_next l.element-iterator;

@@ -8,7 +8,7 @@ use Rattle.nix_data.specs.declared.values.Name.{Name}
 use Rattle.nix_data.proofs.AddedLemmas.{path_left}
 use Rattle.nix_data.proofs.nix_reader.Reader.path.Given as goal
 
--- the names that are left lead from the last one where the whole path leads
+-- the remaining names lead from the last one to the place of the whole path
 abbrev pub invariant-loop-attr : goal.invariant-loop-attr
 invariant-loop-attr l = record {
   next : (goal.iterator-loop-attr).can_next l.attr-iterator;
