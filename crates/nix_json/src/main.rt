@@ -4,8 +4,8 @@
 mod report;
 
 use nix_cli::{
-    Arguments, FAILED, FOUND, Program, Start, end, location_of, read_arguments, read_text, refuse,
-    display_name,
+    Arguments, FAILED, FOUND, Program, Start, display_name, end, location_of, read_arguments,
+    read_text, refuse,
 };
 use nix_data::{data_in, nix_of};
 use nix_values::{Data, data_of_json, json_of};

@@ -9,7 +9,7 @@ mod tree;
 
 use html::write_text;
 use nix_cli::{
-    Arguments, FAILED, Program, Start, end, read_arguments, read_text, refuse, display_name,
+    Arguments, FAILED, Program, Start, display_name, end, read_arguments, read_text, refuse,
 };
 use rnix::Root;
 use script::SCRIPT;
