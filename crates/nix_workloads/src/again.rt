@@ -1,4 +1,4 @@
-//! Small edits, after each of which `reparse` reuses the tree of the text before.
+//! Small edits, after each of which the text is parsed from the tree of the text before.
 
 ghost use Rattle.std.specs.Prelude.{IfOk};
 ghost use Rattle.rnix_reparse.specs.ParsedText.{IsParsedText};
@@ -12,7 +12,7 @@ use rnix_reparse::{editable_range, parse_text, reparse};
 use std::alloc::{AllocError, Global};
 use std::io;
 
-// Returns the parse of a text after an edit, or the parse before it if the edit leaves errors.
+// Returns the parse of a text after an edit, or the one before if the edit leaves errors.
 fn parse_after(
     alloc: Global,
     last: Parse,
@@ -33,7 +33,7 @@ fn parse_after(
     Ok(made)
 }
 
-// Edits a text. An edit that leaves errors is undone.
+// Edits a text. An edit that leaves errors is taken back.
 fn edit_again(
     alloc: Global,
     words: &Words,
@@ -52,7 +52,7 @@ fn edit_again(
     Ok(())
 }
 
-/// Makes small edits in a number of texts, with the same results as `anew`.
+/// Makes small edits of so many texts, with the results of `anew`.
 pub fn again(
     alloc: Global,
     words: &Words,

@@ -16,10 +16,10 @@ use rnix_reparse::{editable_range, parse_text, reparse};
 use std::alloc::{AllocError, Global};
 use std::io;
 
-// The number of edits to each text.
+// How many edits are made of each text.
 const EDITS: usize = 20;
 
-// The number of edits, the number of those to texts without errors, the number of texts without errors after an edit, and the differences.
+// How many edits were made, how many of these of texts without errors, and how many texts after edits have none; and the differences.
 #[derive(Clone, Copy)]
 struct Counts {
     edits: u64,
@@ -28,7 +28,7 @@ struct Counts {
     different: u64,
 }
 
-// Returns whether two parses have the same tree and the same errors.
+// Returns whether two parses have one tree and the same errors.
 fn is_same(one: &Parse, other: &Parse) -> bool {
     let (mut first, mut second) = (Digest::new(), Digest::new());
     add_parse(one, &mut first);
@@ -36,7 +36,7 @@ fn is_same(one: &Parse, other: &Parse) -> bool {
     one.green().is_same(other.green()) && first.sum() == second.sum()
 }
 
-// Returns a random edit of a text: most remove up to eight bytes, most insert a piece, and some insert two.
+// Returns a random edit of a text: most remove up to eight bytes, most write a piece, some two.
 fn random_edit(text: &str, numbers: &mut Numbers) -> (usize, usize, &'static str, &'static str) {
     let start = numbers.below(text.len().saturating_add(1));
     let removed = match numbers.below(8) {
@@ -53,7 +53,7 @@ fn random_edit(text: &str, numbers: &mut Numbers) -> (usize, usize, &'static str
     }
 }
 
-// Counts an edit, and prints it if the parse after it differs from that of the new text.
+// Counts an edit, and prints it if the parse after it is another than that of the new text.
 fn count(
     rt: &HostRuntime,
     old: &Parse,
@@ -85,7 +85,7 @@ fn count(
     Ok(())
 }
 
-// Returns the parse of a text after an edit, or the parse before it: of twelve edits that leave errors, eleven are undone.
+// Returns the parse of a text after an edit, or the one before: of twelve edits that leave errors, eleven are taken back.
 fn parse_after(
     rt: &HostRuntime,
     last: Parse,
@@ -108,7 +108,7 @@ fn parse_after(
     Ok(made)
 }
 
-// Edits a text repeatedly.
+// Edits a text again and again.
 fn compare_edits(
     rt: &HostRuntime,
     read: Parse,
@@ -128,7 +128,7 @@ fn compare_edits(
     Ok(())
 }
 
-// Returns a random text: of 400 texts, 396 are short expressions, three are packages, and one is a list of 20 KB.
+// A text: of 400, 396 are short expressions, three are packages, and one is a list of 20 KB.
 fn text_of(
     alloc: Global,
     words: &Words,
@@ -142,7 +142,7 @@ fn text_of(
     }
 }
 
-/// Makes about this number of edits, and prints how many of the parses after them differ from those of the new texts.
+/// Makes about so many edits, and prints how many parses after them are other ones than those of the new texts.
 pub fn compare(rt: &HostRuntime, words: &Words, seed: u64, size: usize) -> io::Result<()> {
     let mut numbers = Numbers::new(mixed(seed));
     let files = Files::new(rt.alloc())?;

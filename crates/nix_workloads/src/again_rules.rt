@@ -1,9 +1,9 @@
-//! Short expressions of many forms, and the pieces that edits insert into them.
+//! Short expressions of many forms, and what edits write into them.
 
 use crate::numbers::Numbers;
 use std::alloc::{AllocError, Global};
 
-// The forms of an expression: `E` is replaced by an expression, and `N` by a name. Each can be an item of a list.
+// What an expression may be: `E` stands for an expression, and `N` for a name. Each can be an item of a list.
 const RULES: [&str; 48] = [
     "N",
     "1",
@@ -55,7 +55,7 @@ const RULES: [&str; 48] = [
     "(E \"é\")",
 ];
 
-// The pieces that edits insert.
+// What an edit writes.
 const WRITTEN: [&str; 48] = [
     "{", "}", "[", "]", "(", ")", "\"", "''", "${", "#", "/*", "*/", "\n", "\r\n", " ", ";", ":",
     "@", "=", ",", ".", "...", "?", "or", "in", "let ", "rec ", "with ", "a", "b c", "1", "d = 1;",
@@ -63,15 +63,15 @@ const WRITTEN: [&str; 48] = [
     "<n>", "-", "//", "é", "$",
 ];
 
-// The letters that replace names.
+// Letters in place of names.
 const LETTERS: [&str; 8] = ["a", "b", "c", "d", "e", "f", "g", "g-h"];
 
-/// Returns one of the pieces that edits insert.
+/// Returns one of the pieces that edits write.
 pub fn written(numbers: &mut Numbers) -> &'static str {
     WRITTEN[numbers.below(48) % 48]
 }
 
-// Returns the offset of the letter `E` that follows a number of others, or of the last one.
+// Returns the offset of the letter `E` that comes after so many others, or of the last one.
 fn place_of(text: &[u8], number: usize) -> Option<usize> {
     let (mut left, mut found) = (number, None);
     for offset in 0..text.len() {
@@ -86,7 +86,7 @@ fn place_of(text: &[u8], number: usize) -> Option<usize> {
     found
 }
 
-// Replaces an expression by a rule. A text without expressions stays as it is.
+// Puts a rule in the place of an expression. A text without expressions stays as it is.
 fn grown(alloc: Global, text: String, numbers: &mut Numbers) -> Result<String, AllocError> {
     let Some(offset) = place_of(text.as_bytes(), numbers.below(6)) else {
         return Ok(text);
@@ -112,7 +112,7 @@ fn named(alloc: Global, text: &str, numbers: &mut Numbers) -> Result<String, All
     Ok(made)
 }
 
-/// Returns a random expression, mostly of 50 to 400 bytes.
+/// A random expression, mostly of 50 to 400 bytes.
 pub fn expression(alloc: Global, numbers: &mut Numbers) -> Result<String, AllocError> {
     let mut text = String::from_str(alloc, "{ N = E; N = [ E E (E) ]; N = { N = E; }; }")?;
     for _turn in 0..numbers.below(28) {

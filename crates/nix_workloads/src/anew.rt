@@ -8,7 +8,7 @@ use rnix::Root;
 use std::alloc::{AllocError, Global};
 use std::io;
 
-/// Returns a text after an edit, or `None` if the edit's offsets are not in the text, or are inside a character.
+/// Returns a text after an edit, or `None` if its offsets are not in the text, or inside a character.
 pub fn text_after(
     alloc: Global,
     text: &str,
@@ -29,7 +29,7 @@ pub fn text_after(
     }
 }
 
-// Edits a text. An edit that leaves errors is undone.
+// Edits a text. An edit that leaves errors is taken back.
 fn edit_anew(
     alloc: Global,
     words: &Words,
@@ -52,7 +52,7 @@ fn edit_anew(
     Ok(())
 }
 
-/// Makes small edits in a number of texts.
+/// Makes small edits of so many texts.
 pub fn anew(
     alloc: Global,
     words: &Words,

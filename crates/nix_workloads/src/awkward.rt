@@ -15,7 +15,7 @@ use rnix_text::Edits;
 use std::alloc::{AllocError, Global};
 use std::io;
 
-// Returns a text that begins with one template, repeats another, and ends with a third one.
+// A text that begins with one template, has another one again and again, and ends with a third one.
 fn repeated(
     alloc: Global,
     words: &Words,
@@ -30,7 +30,7 @@ fn repeated(
     Ok(draft.into_text())
 }
 
-// Rows of templates, each with the number of repetitions per unit of the size.
+// Rows of templates, each with the number of its repetitions for each unit of the size.
 const ROWS: [([&str; 3], usize); 9] = [
     // brackets that are not closed
     (["", "[(%a ", ""], 150),
@@ -48,15 +48,15 @@ const ROWS: [([&str; 3], usize); 9] = [
     (["''\n", "  %a ${%b}\n    %c ''$ %d\n", "''\n"], 150),
 ];
 
-// The largest number of functions inside one another, below the 512 levels that the parser reads.
-const MAX_FUNCTIONS: usize = 480;
+// How many functions are in one another at most: less than the 512 levels that the parser reads.
+const MOST_FUNCTIONS: usize = 480;
 
-// Returns functions inside one another, the innermost of which uses the name of the outermost one and names that none of them binds.
+// Names of the outermost of functions in functions and of none of them, all used in the innermost one.
 fn scopes(alloc: Global, words: &Words, seed: u64, uses: usize) -> Result<String, AllocError> {
     let mut draft = Draft::new(alloc, words, seed);
     let (function, names) = ("%a%%: ", "  outer\n  %a\n");
     draft.push("outer: ")?;
-    let inner = uses.min(MAX_FUNCTIONS - 1);
+    let inner = uses.min(MOST_FUNCTIONS - 1);
     draft.repeat(&Template::new(alloc, function)?, inner)?;
     draft.push("[\n")?;
     draft.repeat(&Template::new(alloc, names)?, uses)?;
@@ -64,7 +64,7 @@ fn scopes(alloc: Global, words: &Words, seed: u64, uses: usize) -> Result<String
     Ok(draft.into_text())
 }
 
-// Returns a set in Nix with names that differ only in their last letters.
+// A set of names that differ in their last letters alone, as Nix.
 fn alike(alloc: Global, words: &Words, seed: u64, names: usize) -> Result<String, AllocError> {
     let mut draft = Draft::new(alloc, words, seed);
     draft.push("{\n")?;
@@ -86,7 +86,7 @@ fn add_data(alloc: Global, text: &str, digest: &mut Digest) -> Result<(), AllocE
     Ok(())
 }
 
-// Replaces each line but the last by an edit, beginning with the last line.
+// Replaces each line but the last by an edit, the last line first.
 fn edit_backwards(alloc: Global, text: &str, digest: &mut Digest) -> Result<(), AllocError> {
     let mut edits = Edits::new(alloc, text);
     let mut end = text.len();
@@ -101,7 +101,7 @@ fn edit_backwards(alloc: Global, text: &str, digest: &mut Digest) -> Result<(), 
     Ok(())
 }
 
-// Adds the nodes that cover ranges of a text.
+// Adds what covers ranges of a text.
 fn add_covers(alloc: Global, text: &str, seed: u64, digest: &mut Digest) -> Result<(), AllocError> {
     let read = Root::parse(alloc, text)?;
     add_parse(&read, digest);
@@ -117,7 +117,7 @@ fn add_covers(alloc: Global, text: &str, seed: u64, digest: &mut Digest) -> Resu
     Ok(())
 }
 
-// Parses texts that begin and end with templates, and repeat rows of templates between them.
+// Reads texts that end as they begin, with rows of templates between.
 fn check_rows(
     alloc: Global,
     words: &Words,
@@ -132,7 +132,7 @@ fn check_rows(
     Ok(())
 }
 
-/// Parses texts of each shape; the size determines the number of repetitions.
+/// Reads texts of each shape, with repetitions by the size.
 pub fn awkward(
     alloc: Global,
     words: &Words,

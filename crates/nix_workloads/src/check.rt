@@ -23,7 +23,7 @@ fn add_notes(notes: &[Note], digest: &mut Digest) {
     digest.add_number(notes.len());
 }
 
-/// Adds the mistakes of a text that was parsed.
+/// Adds the mistakes of a text that was read.
 pub fn add_mistakes(alloc: Global, read: &Parse, digest: &mut Digest) -> Result<(), AllocError> {
     let found = diagnostics(alloc, read)?;
     for diagnostic in &found {
@@ -81,7 +81,7 @@ pub fn add_formatted(alloc: Global, text: &str, digest: &mut Digest) -> Result<(
     Ok(())
 }
 
-/// Adds all results of checking a text.
+/// Adds all that is checked of a text.
 pub fn check_text(alloc: Global, text: &str, digest: &mut Digest) -> Result<(), AllocError> {
     add_formatted(alloc, text, digest)?;
     let read = Root::parse(alloc, text)?;
@@ -90,7 +90,7 @@ pub fn check_text(alloc: Global, text: &str, digest: &mut Digest) -> Result<(), 
     add_names(alloc, &read, digest)
 }
 
-/// Checks a number of files, a list of all packages, and a generated set.
+/// Checks so many files, a list of all packages, and a generated set.
 pub fn check(
     alloc: Global,
     words: &Words,

@@ -10,7 +10,7 @@ use nix_values::{Data, JsonError, data_of_json, json_of};
 use std::alloc::{AllocError, Global};
 use std::io;
 
-/// Adds the reason why a text is not data.
+/// Adds why a text is not data.
 pub fn add_no_data(found: &NoData, digest: &mut Digest) {
     digest.add_text(found.reason.text());
     if let Reason::Evaluated(kind) = found.reason {
@@ -22,14 +22,14 @@ pub fn add_no_data(found: &NoData, digest: &mut Digest) {
     }
 }
 
-// Adds the reason why a text is not JSON.
+// Adds why a text is not JSON.
 fn add_json_error(error: &JsonError, digest: &mut Digest) {
     digest.add_text(error.reason.text());
     digest.add_number(error.offset);
     digest.add_number(error.first.unwrap_or(usize::MAX));
 }
 
-// Writes data as JSON, and adds the text and whether it reads as the same data.
+// Writes data as JSON, and adds the text and whether it is read as the same data.
 fn add_json(alloc: Global, data: &Data, digest: &mut Digest) -> Result<(), AllocError> {
     let Some(json) = json_of(alloc, data)? else {
         digest.add_number(0);
@@ -71,7 +71,7 @@ fn from_json(alloc: Global, text: &str, digest: &mut Digest) -> Result<(), Alloc
     from_nix(alloc, nix.as_str(), digest)
 }
 
-/// Converts a number of texts of each kind.
+/// Converts so many texts of each kind.
 pub fn convert(
     alloc: Global,
     words: &Words,

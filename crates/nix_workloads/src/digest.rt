@@ -1,16 +1,16 @@
 //! A digest of results.
 
-/// A digest of texts and numbers, and how many of them were added.
+/// A digest of texts and numbers, and how many there were.
 #[derive(Clone, Copy)]
 pub struct Digest {
     sum: u64,
     count: u64,
 }
 
-// The factor by which the sum is multiplied for each number.
+// By what the sum is multiplied for each number.
 const FACTOR: u64 = 0x9e37_79b9_7f4a_7c15;
 
-// The number of bits by which the sum is rotated before each number.
+// By how many bits the sum is rotated before each number.
 const TURN: u32 = 29;
 
 // Returns fewer than eight bytes as one number.
@@ -23,7 +23,7 @@ fn last_word(bytes: &[u8]) -> u64 {
 }
 
 impl Digest {
-    /// Returns an empty digest.
+    /// The digest of nothing.
     pub fn new() -> Digest {
         Digest {
             sum: 0xcbf2_9ce4_8422_2325,
@@ -31,7 +31,7 @@ impl Digest {
         }
     }
 
-    // Adds eight bytes to the sum.
+    // Puts eight bytes into the sum.
     fn mix(&mut self, word: u64) {
         self.sum = (self.sum.rotate_left(TURN) ^ word).wrapping_mul(FACTOR);
     }
@@ -42,7 +42,7 @@ impl Digest {
         self.count = self.count.wrapping_add(1);
     }
 
-    /// Adds bytes and their number. It is not inlined, so that profiles show the cost of digests.
+    /// Adds bytes and their number. It stays a call of its own, so that profiles show what digests cost.
     #[inline(never)]
     pub fn add_bytes(&mut self, bytes: &[u8]) {
         let (words, rest) = bytes.as_chunks::<8>();
@@ -58,12 +58,12 @@ impl Digest {
         self.add_bytes(text.as_bytes());
     }
 
-    /// Returns the digest of everything that was added.
+    /// The digest of all that was added.
     pub fn sum(self) -> u64 {
         self.sum
     }
 
-    /// Returns the number of texts and numbers that were added.
+    /// How many texts and numbers were added.
     pub fn count(self) -> u64 {
         self.count
     }

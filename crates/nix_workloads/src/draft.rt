@@ -1,11 +1,11 @@
-//! Texts that are built from templates.
+//! Texts that are written by templates.
 
 use crate::numbers::{Numbers, mixed};
 use crate::template::{Sign, Template};
 use crate::words::Words;
 use std::alloc::{AllocError, Global};
 
-/// A text that is built from templates.
+/// A text that grows by templates.
 #[derive(Drop)]
 pub struct Draft<'w> {
     words: &'w Words,
@@ -15,7 +15,7 @@ pub struct Draft<'w> {
 }
 
 impl<'w> Draft<'w> {
-    /// Returns an empty text, whose words and numbers come from a seed.
+    /// An empty text, whose words and numbers are those of a seed.
     pub fn new(alloc: Global, words: &'w Words, seed: u64) -> Draft<'w> {
         Draft {
             words,
@@ -35,7 +35,7 @@ impl<'w> Draft<'w> {
         }
     }
 
-    // Adds the text for a sign, given the number of this use of the template.
+    // Adds what a sign stands for, by the number of this use of the template.
     fn push_sign(&mut self, sign: Sign, base: u64) -> Result<(), AllocError> {
         match sign {
             Sign::Word(letter) => {
@@ -50,7 +50,7 @@ impl<'w> Draft<'w> {
         }
     }
 
-    /// Adds a template whose words and numbers come from a number.
+    /// Adds a template whose words and numbers are those of a number.
     pub fn fill_by(&mut self, template: &Template, base: u64) -> Result<(), AllocError> {
         for part in template.parts() {
             self.text.push_str(part.text)?;
@@ -66,7 +66,7 @@ impl<'w> Draft<'w> {
         self.fill_by(template, base)
     }
 
-    /// Adds a random one of some templates.
+    /// Adds one of some templates, by chance.
     pub fn fill_one(&mut self, templates: &[Template]) -> Result<(), AllocError> {
         let at = self.numbers.below(templates.len());
         match templates.get(at) {
@@ -75,7 +75,7 @@ impl<'w> Draft<'w> {
         }
     }
 
-    /// Adds a template repeatedly.
+    /// Adds a template again and again.
     pub fn repeat(&mut self, template: &Template, times: usize) -> Result<(), AllocError> {
         for _turn in 0..times {
             self.fill(template)?;
@@ -88,12 +88,12 @@ impl<'w> Draft<'w> {
         self.text.push_str(text)
     }
 
-    /// Returns the remaining numbers.
+    /// The numbers that are left.
     pub fn numbers(&mut self) -> &mut Numbers {
         &mut self.numbers
     }
 
-    /// Returns the text.
+    /// The text.
     pub fn into_text(self) -> String {
         let Draft { text, .. } = self;
         text

@@ -1,4 +1,4 @@
-//! An index of sources: their names as JSON, the results of typed nodes, and the printed trees.
+//! An index of sources: their names as JSON, what typed nodes say, and the printed trees.
 
 use crate::digest::Digest;
 use crate::numbers::mixed;
@@ -16,7 +16,7 @@ use std::alloc::{AllocError, Global};
 use std::collections::HashMap;
 use std::io::{self, Write};
 
-// Writes a name; if an earlier line has the same one, writes the number of that name instead.
+// Writes a name; where a line before has the same one, the number of that name in its place.
 fn write_name<'t, W: Write>(
     numbers: &mut HashMap<&'t str, usize>,
     name: &'t str,
@@ -31,7 +31,7 @@ fn write_name<'t, W: Write>(
     write_json_string(name, out)
 }
 
-// Writes the offset at which the node of a name begins, and ends the line.
+// Writes where the node of a name begins, and ends the line.
 fn write_place<W: Write>(
     index: &LineIndex<'_>,
     node: &SyntaxNode<'_>,
@@ -43,7 +43,7 @@ fn write_place<W: Write>(
     writeln!(out, ",\"line\":{line},\"column\":{column}}}")
 }
 
-// Writes the lines of the names that a text binds, each with its offset, and adds their scopes.
+// Writes the lines of the names that a text binds, each with its place, and adds their scopes.
 fn write_bindings<'n, W: Write>(
     index: &LineIndex<'_>,
     bindings: &'n [Binding<'_>],
@@ -60,7 +60,7 @@ fn write_bindings<'n, W: Write>(
     Ok(())
 }
 
-// Writes the lines of the names that a text uses: the number of the binding, or else the name, and the offset. Adds what they refer to.
+// Writes the lines of the names that a text uses: the number of its binding, or else the name, and its place. Adds how they refer to it.
 fn write_references<'n, W: Write>(
     index: &LineIndex<'_>,
     references: &'n [Reference<'_>],
@@ -111,8 +111,8 @@ fn add_position(index: &LineIndex<'_>, offset: usize, digest: &mut Digest) {
     digest.add_number(place.column);
 }
 
-// Adds the nodes of a tree, and the results of those that have a type. No two strings begin, and no two attributes or selections end, at the same offset,
-// nor does a name begin there.
+// Adds the nodes of a tree, and what those say that have a type. No two strings begin, and no two attributes or selections end in one place, nor does a
+// name begin there.
 fn add_nodes(
     alloc: Global,
     root: &SyntaxNode<'_>,
@@ -167,7 +167,7 @@ fn print_text(alloc: Global, text: &str, digest: &mut Digest) -> io::Result<()> 
     Ok(())
 }
 
-/// Indexes sources with about this number of entries together, and prints the trees of some.
+/// Indexes sources with about so many entries together, and prints the trees of some.
 pub fn index(
     alloc: Global,
     words: &Words,

@@ -1,4 +1,4 @@
-//! Key presses: after each, the text is parsed again, and what is under the pointer is looked up.
+//! Key presses: a text is read again after each, and what stands under the pointer is looked up.
 
 use crate::check::{add_mistakes, add_names};
 use crate::digest::Digest;
@@ -12,7 +12,7 @@ use rnix_text::{ColumnUnit, LineIndex};
 use std::alloc::{AllocError, Global};
 use std::io;
 
-// Returns what the key with a number adds to the text.
+// What the key of a number adds to the text.
 fn key(number: usize) -> &'static str {
     match number {
         0 => "x",
@@ -26,7 +26,7 @@ fn key(number: usize) -> &'static str {
     }
 }
 
-// The number of offsets that are looked up after each key press: one in each part of the text, so that none is looked up twice.
+// How many places a text is asked about after each key press: one in each part of it, so that none is asked about twice.
 const PLACES: usize = 40;
 
 // Adds the kinds of the nodes around a token.
@@ -45,7 +45,7 @@ fn add_token(token: &SyntaxToken<'_>, digest: &mut Digest) {
     digest.add_text(token.text());
 }
 
-/// Adds what is at an offset: its tokens, the nodes around the last of them, and what covers a few bytes after the offset.
+/// Adds what is at an offset: its tokens, the nodes around the last of them, and what covers a few bytes after it.
 pub fn add_place(root: &SyntaxNode<'_>, offset: usize, len: usize, digest: &mut Digest) {
     match root.token_at_offset(offset) {
         TokenAtOffset::None => digest.add_number(0),
@@ -65,7 +65,7 @@ pub fn add_place(root: &SyntaxNode<'_>, offset: usize, len: usize, digest: &mut 
     }
 }
 
-// Adds what an editor asks about a text that has just changed.
+// Adds what an editor asks of a text that it has just changed.
 fn read_again(
     alloc: Global,
     text: &str,
@@ -91,10 +91,10 @@ fn read_again(
     Ok(())
 }
 
-// The number of keys that are pressed in a text, each in the text as it was generated.
+// How many keys are pressed in a text, each in the text as it was made.
 const KEYS: usize = 2;
 
-// Presses a key at some offset of a text.
+// Presses a key somewhere in a text.
 fn press_once(
     alloc: Global,
     text: &str,
@@ -108,7 +108,7 @@ fn press_once(
     read_again(alloc, made.as_str(), numbers, digest)
 }
 
-// Presses keys at some offsets of a text.
+// Presses keys somewhere in a text.
 fn press_keys(alloc: Global, text: &str, seed: u64, digest: &mut Digest) -> Result<(), AllocError> {
     let mut numbers = Numbers::new(seed);
     for _key in 0..KEYS {
@@ -117,7 +117,7 @@ fn press_keys(alloc: Global, text: &str, seed: u64, digest: &mut Digest) -> Resu
     Ok(())
 }
 
-/// Presses keys in a number of texts of 5 to 150 KB.
+/// Presses keys in so many texts of 5 to 150 KB.
 pub fn press(
     alloc: Global,
     words: &Words,

@@ -1,6 +1,6 @@
-//! Does jobs that users of the library wait for, on texts that it generates: `nix_workloads JOB SEED SIZE` prints the number of results of the job, and a
-//! digest of them. `all` does each job except `anew` and `again`, and `compare` compares what these two call. A job calls only public functions of the
-//! libraries, and none that does the same work twice for one text, or for one name or offset in it.
+//! Does jobs that users of the library wait for, on texts that it makes itself: `nix_workloads JOB SEED SIZE` prints how many results the job had, and a
+//! digest of them all. `all` does each job but `anew` and `again`, and `compare` compares what these two call. A job calls the public functions of the
+//! libraries alone, and none that takes work twice on one text, or on one name or place of it.
 #![tactic(auto)]
 
 mod again;
@@ -32,7 +32,7 @@ use words::Words;
 // The jobs, in the order in which `all` does them.
 const JOBS: [&str; 6] = ["check", "index", "edit", "convert", "keys", "awkward"];
 
-// Does a job on texts that come from a seed, and adds its results to the digest. An unknown job has no results.
+// Does a job on texts of a seed, and adds its results to the digest. An unknown job has no results.
 fn work(
     alloc: Global,
     words: &Words,

@@ -1,20 +1,20 @@
-//! Random numbers.
+//! Numbers without a pattern.
 
-/// A sequence of random numbers, which is the same for the same seed.
+/// A sequence of numbers without a pattern, the same for each seed.
 #[derive(Clone, Copy)]
 pub struct Numbers {
     state: u64,
 }
 
 impl Numbers {
-    /// Returns the sequence of a seed.
+    /// The sequence of a seed.
     pub fn new(seed: u64) -> Numbers {
         Numbers {
             state: mixed(seed.wrapping_add(1)),
         }
     }
 
-    /// Returns the next number.
+    /// The next number.
     pub fn next(&mut self) -> u64 {
         self.state = self
             .state
@@ -23,13 +23,13 @@ impl Numbers {
         self.state >> 16
     }
 
-    /// Returns the next number below a limit, or 0 if the limit is 0.
+    /// The next number below a limit, or 0 if the limit is 0.
     pub fn below(&mut self, limit: usize) -> usize {
         (self.next() as usize) % limit.max(1)
     }
 }
 
-/// Returns a number whose bits depend on all bits of another one.
+/// A number whose bits depend on all bits of another one.
 pub fn mixed(number: u64) -> u64 {
     let high = (number ^ (number >> 31)).wrapping_mul(0x9e37_79b9_7f4a_7c15);
     high ^ (high >> 29)

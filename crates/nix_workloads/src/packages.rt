@@ -1,4 +1,4 @@
-//! The files of a collection of packages.
+//! Files of a collection of packages.
 
 use crate::draft::Draft;
 use crate::numbers::Numbers;
@@ -106,8 +106,8 @@ in
 }
 "#;
 
-// A package that the formatter would change: it has other white space, and strings that move.
-const UNFORMATTED: &str = r#"{ lib, stdenv, fetchurl, %a, %b ? null,
+// A package that the formatter would change: other white space, and strings that move.
+const LOOSE: &str = r#"{ lib, stdenv, fetchurl, %a, %b ? null,
   %c }:
 stdenv.mkDerivation rec {
     pname = "%p"; version = "%0.%1";
@@ -133,28 +133,28 @@ const ENTRIES: [&str; 4] = [
     "  # %a is %b\n  %a = self.%c.override { stdenv = %d; };\n",
 ];
 
-/// The templates for the files of a collection.
+/// The templates of files of a collection.
 #[derive(Drop)]
 pub struct Files {
     package: Template,
     module: Template,
-    unformatted: Template,
+    loose: Template,
 }
 
 impl Files {
-    /// Parses the templates.
+    /// Reads the templates.
     pub fn new(alloc: Global) -> Result<Files, AllocError> {
         Ok(Files {
             package: Template::new(alloc, PACKAGE)?,
             module: Template::new(alloc, MODULE)?,
-            unformatted: Template::new(alloc, UNFORMATTED)?,
+            loose: Template::new(alloc, LOOSE)?,
         })
     }
 
-    // Returns one of the templates: one of eight is a file that the formatter would change; of the others, one of three is a module.
+    // One of the templates: of eight, one is such as the formatter would change; of the others, one of three is a module.
     fn template(&self, numbers: &mut Numbers) -> &Template {
         if numbers.below(8) == 0 {
-            &self.unformatted
+            &self.loose
         } else if numbers.below(3) == 0 {
             &self.module
         } else {
@@ -162,7 +162,7 @@ impl Files {
         }
     }
 
-    /// Returns a file of a collection: a package or a module, one of eight of which the formatter would change.
+    /// A file of a collection: a package or a module, one in eight of them such as the formatter would change.
     pub fn file(&self, alloc: Global, words: &Words, seed: u64) -> Result<String, AllocError> {
         let mut draft = Draft::new(alloc, words, seed);
         let template = self.template(draft.numbers());
@@ -171,7 +171,7 @@ impl Files {
     }
 }
 
-/// Returns a list of all packages with this number of entries.
+/// A list of all packages, with so many entries.
 pub fn listing(
     alloc: Global,
     words: &Words,
@@ -201,7 +201,7 @@ const GENERATED: &str =
 
 "#;
 
-/// Returns a generated set with this number of entries, which the formatter would change.
+/// A generated set with so many entries, which the formatter would change.
 pub fn generated(
     alloc: Global,
     words: &Words,

@@ -1,4 +1,4 @@
-//! Pins and other data, in Nix and in JSON.
+//! Pins and other data, as Nix and as JSON.
 
 use crate::draft::Draft;
 use crate::template::Template;
@@ -17,7 +17,7 @@ const LOCKED: &str = r#"    "%a-%%": {
     },
 "#;
 
-/// Returns a lock file in JSON with this number of pins.
+/// A lock file in JSON, with so many pins.
 pub fn lock(alloc: Global, words: &Words, seed: u64, pins: usize) -> Result<String, AllocError> {
     let mut draft = Draft::new(alloc, words, seed);
     draft.push("{\n  \"nodes\": {\n")?;
@@ -33,7 +33,7 @@ const STRING: &str = "  \"%a%%\": \"%b\\n\\t\\\"%c\\\" ${%d} \\u00e9\\\\\",\n";
 
 const LIST: &str = "  \"%a%%\": [ %0, -%1, %2.5, true, null ],\n";
 
-/// Returns a JSON object with this number of names, strings with escapes and numbers.
+/// A JSON object with so many names, strings with escapes and numbers.
 pub fn flat(alloc: Global, words: &Words, seed: u64, names: usize) -> Result<String, AllocError> {
     let mut draft = Draft::new(alloc, words, seed);
     let (string, list) = (Template::new(alloc, STRING)?, Template::new(alloc, LIST)?);
@@ -46,7 +46,7 @@ pub fn flat(alloc: Global, words: &Words, seed: u64, names: usize) -> Result<Str
     Ok(draft.into_text())
 }
 
-/// Returns a list of numbers in JSON.
+/// A list of numbers in JSON.
 pub fn numbers(
     alloc: Global,
     words: &Words,
@@ -69,7 +69,7 @@ const PIN: &str = r#"  # %a of %b
   };
 "#;
 
-/// Returns a set of pins in Nix.
+/// A set of pins in Nix.
 pub fn pins(alloc: Global, words: &Words, seed: u64, count: usize) -> Result<String, AllocError> {
     let mut draft = Draft::new(alloc, words, seed);
     draft.push("{\n")?;
@@ -85,7 +85,7 @@ const PATHS: &str =
 // An attribute whose value is a list.
 const HOSTS: &str = "  hosts.%a%% = [ %0 \"%b\" ./%c/%d.nix ];\n";
 
-/// Returns a set in Nix whose attributes have nested paths.
+/// A set in Nix whose attributes have nested paths.
 pub fn paths(alloc: Global, words: &Words, seed: u64, count: usize) -> Result<String, AllocError> {
     let mut draft = Draft::new(alloc, words, seed);
     let (paths, hosts) = (Template::new(alloc, PATHS)?, Template::new(alloc, HOSTS)?);

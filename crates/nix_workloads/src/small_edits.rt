@@ -10,7 +10,7 @@ use crate::words::Words;
 use rnix::Parse;
 use std::alloc::{AllocError, Global};
 
-/// An edit: the offsets of the bytes that are removed, and the text that replaces them.
+/// An edit: the offsets of what is removed, and what replaces it.
 #[derive(Clone, Copy)]
 pub struct SmallEdit<'w> {
     pub start: usize,
@@ -18,7 +18,7 @@ pub struct SmallEdit<'w> {
     pub new: &'w str,
 }
 
-// The texts that are inserted.
+// What is inserted.
 const INSERTED: [&str; 16] = [
     "x",
     " ",
@@ -38,10 +38,10 @@ const INSERTED: [&str; 16] = [
     "${",
 ];
 
-/// The number of edits to each text.
+/// How many edits are made of each text.
 pub const EDITS: usize = 60;
 
-/// Returns a text of 20 KB to 1 MB without errors: mostly one set with many entries.
+/// A text of 20 KB to 1 MB without errors: mostly one set with many entries.
 pub fn edited_text(
     alloc: Global,
     words: &Words,
@@ -57,13 +57,13 @@ pub fn edited_text(
     }
 }
 
-// Returns whether a byte is a lower-case letter.
+// Returns whether a byte is a small letter.
 fn is_letter(byte: u8) -> bool {
     byte.is_ascii_lowercase()
 }
 
-// Returns the start and the end of the first run of lower-case letters after an offset.
-fn word_after(text: &str, offset: usize) -> (usize, usize) {
+// Returns where the first run of small letters behind an offset begins and ends.
+fn word_behind(text: &str, offset: usize) -> (usize, usize) {
     let behind = text.get(offset..).unwrap_or("").as_bytes();
     let before = behind.iter().take_while(|byte| !is_letter(**byte)).count();
     let start = offset.saturating_add(before);
@@ -72,13 +72,13 @@ fn word_after(text: &str, offset: usize) -> (usize, usize) {
     (start, start.saturating_add(len))
 }
 
-/// Returns an edit at a random offset of a text: of eight edits, four replace a word, two insert a few bytes, and two remove up to four.
+/// Returns an edit somewhere in a text: of eight, four replace a word, two insert a few bytes, and two remove up to four.
 pub fn small_edit<'w>(words: &'w Words, text: &str, numbers: &mut Numbers) -> SmallEdit<'w> {
     let offset = numbers.below(text.len());
     let (way, number) = (numbers.below(8), numbers.next());
     match way {
         0..=3 => {
-            let (start, end) = word_after(text, offset);
+            let (start, end) = word_behind(text, offset);
             let new = words.word(number);
             SmallEdit { start, end, new }
         }
@@ -99,7 +99,7 @@ pub fn small_edit<'w>(words: &'w Words, text: &str, numbers: &mut Numbers) -> Sm
     }
 }
 
-/// Adds the parse of a text after an edit, and what is at the offset of the edit.
+/// Adds the parse of a text after an edit, and what is at the edited place.
 pub fn add_edited(read: &Parse, edit: SmallEdit<'_>, digest: &mut Digest) {
     add_parse(read, digest);
     add_place(&read.syntax(), edit.start, edit.new.len(), digest);

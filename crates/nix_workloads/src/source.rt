@@ -16,7 +16,7 @@ const OPTION: &str = r#"  services.%a.enable = lib.mkEnableOption "the %b";
   users.%a = if config.%a.enable && !config.%b.off or false then { uid = %0; } else null;
 "#;
 
-/// Returns a module with this number of options.
+/// A module with so many options.
 pub fn module(
     alloc: Global,
     words: &Words,
@@ -30,17 +30,17 @@ pub fn module(
     Ok(draft.into_text())
 }
 
-// The beginning of a `let` inside a function.
+// What a `let` inside a function begins with.
 const OPENED: &str =
     "%a: { %b, %c1 ? %a, ... }@%d2: let\n  %e = %b.%f or (%c1 %a);\n  %g = %j: %j + %e;\n  inherit (%d2) %h;\nin ";
 
 // A use of these names.
 const USED: &str = "(%g (%e + %h.%i)) ";
 
-// An entry, before its value.
+// An entry whose value follows.
 const NAMED: &str = "%a-%% = ";
 
-// The templates of `let`s in functions in `let`s.
+// The templates of lets in functions in lets.
 #[derive(Drop)]
 struct Nesting {
     named: Template,
@@ -61,7 +61,7 @@ fn fill_levels(
     Ok(())
 }
 
-// Adds an entry: `let`s in functions in `let`s, and in the innermost one a call that uses the names of all.
+// Adds an entry: lets in functions in lets, and a call in the innermost one that uses the names of all.
 fn push_entry(draft: &mut Draft<'_>, nesting: &Nesting) -> Result<(), AllocError> {
     draft.fill(&nesting.named)?;
     let depth = draft.numbers().below(16).saturating_add(5);
@@ -72,7 +72,7 @@ fn push_entry(draft: &mut Draft<'_>, nesting: &Nesting) -> Result<(), AllocError
     draft.push(";\n")
 }
 
-/// Returns a set whose values are `let`s in functions in `let`s, 5 to 20 deep.
+/// A set whose values are lets in functions in lets, 5 to 20 deep.
 pub fn lets(alloc: Global, words: &Words, seed: u64, entries: usize) -> Result<String, AllocError> {
     let mut draft = Draft::new(alloc, words, seed);
     let nesting = Nesting {
@@ -91,7 +91,7 @@ pub fn lets(alloc: Global, words: &Words, seed: u64, entries: usize) -> Result<S
 // A use of a name, alone and in a string.
 const USE: &str = "  %a%% = call { %b = version; %c = \"${version}-%0\"; };\n";
 
-/// Returns a set in which one name is bound once, and used twice in each of this number of entries.
+/// A set in which one name is bound once and used twice in each of so many entries.
 pub fn uses(alloc: Global, words: &Words, seed: u64, entries: usize) -> Result<String, AllocError> {
     let mut draft = Draft::new(alloc, words, seed);
     draft.push("let version = \"1.2\"; call = x: x; in {\n")?;

@@ -2,7 +2,7 @@
 
 use std::alloc::{AllocError, Global};
 
-/// The meaning of a sign in a template.
+/// What is in a text for a sign of its template.
 #[derive(Clone, Copy)]
 pub enum Sign {
     /// A word, the same one for the same letter in one use of the template.
@@ -22,14 +22,14 @@ pub struct Part {
     pub sign: Sign,
 }
 
-/// A template. In its text, `%` and a lower-case letter are replaced by a word, `%` and a digit by a number, and `%%` by the number of templates before it.
+/// A template. In its text, `%` and a small letter stand for a word, `%` and a digit for a number, and `%%` for the number of templates before it.
 #[derive(Drop)]
 pub struct Template {
     parts: Vec<Part>,
     end: &'static str,
 }
 
-// Returns the sign for the byte after a `%`.
+// Returns the sign of the byte after a `%`.
 fn sign_of(byte: u8) -> Sign {
     match byte {
         b'0'..=b'9' => Sign::Number(byte),
@@ -39,7 +39,7 @@ fn sign_of(byte: u8) -> Sign {
 }
 
 impl Template {
-    /// Parses a template.
+    /// Reads a template.
     pub fn new(alloc: Global, text: &'static str) -> Result<Template, AllocError> {
         let mut parts = Vec::new(alloc);
         let (mut from, mut at) = (0usize, 0usize);
@@ -58,7 +58,7 @@ impl Template {
         Ok(Template { parts, end })
     }
 
-    /// Parses some templates.
+    /// Reads some templates.
     pub fn all(alloc: Global, texts: &[&'static str]) -> Result<Vec<Template>, AllocError> {
         let mut templates = Vec::new(alloc);
         for text in texts {
@@ -67,12 +67,12 @@ impl Template {
         Ok(templates)
     }
 
-    /// Returns its texts except for the last one, each with the sign after it.
+    /// Its texts except for the last one, each with the sign after it.
     pub fn parts(&self) -> &[Part] {
         &self.parts
     }
 
-    /// Returns its last text.
+    /// Its last text.
     pub fn end(&self) -> &'static str {
         self.end
     }

@@ -1,4 +1,4 @@
-//! Words and numbers as texts. They are made once, so that a template only copies them.
+//! Words and numbers as texts. They are made once, so that a template takes one copy for each of them.
 
 use crate::numbers::mixed;
 use std::alloc::{AllocError, Global};
@@ -9,21 +9,21 @@ const SYLLABLES: [&str; 32] = [
     "xi", "ya", "ze", "bo", "da", "fe", "go", "hu", "ja", "ko", "la", "mi", "no", "po", "ru", "sa",
 ];
 
-// The number of sequences of two syllables.
+// How many sequences of two syllables there are.
 const PAIRS: u64 = 32 * 32;
 
-// The number of words: each two syllables, alone and with one or two more.
+// How many words there are: each two syllables, alone and with one or two more.
 const WORDS: u64 = 3 * PAIRS;
 
 // The limit of the numbers.
 const NUMBERS: u64 = 1000;
 
-/// Words of 2 to 4 syllables, all of them different, and the numbers below 1000.
+/// Words of 2 to 4 syllables, no two alike, and the numbers below 1000.
 #[derive(Drop)]
 pub struct Words {
     words: Vec<String>,
     numbers: Vec<String>,
-    // The numbers in three digits, with leading zeros.
+    // The numbers, with zeros before them: each of three digits.
     padded: Vec<String>,
 }
 
@@ -48,7 +48,7 @@ fn all_words(alloc: Global) -> Result<Vec<String>, AllocError> {
 }
 
 impl Words {
-    /// Makes the words and the numbers.
+    /// Makes them.
     pub fn new(alloc: Global) -> Result<Words, AllocError> {
         let (mut numbers, mut padded) = (Vec::new(alloc), Vec::new(alloc));
         for number in 0..NUMBERS {
@@ -62,17 +62,17 @@ impl Words {
         })
     }
 
-    /// Returns the word for a number.
+    /// A word that a number stands for.
     pub fn word(&self, number: u64) -> &str {
         text_at(&self.words, number % WORDS)
     }
 
-    /// Returns the number below 1000 for another number.
+    /// A number below 1000 that another one stands for.
     pub fn number(&self, number: u64) -> &str {
         text_at(&self.numbers, number % NUMBERS)
     }
 
-    /// Returns the last three digits of a number.
+    /// The last three digits of a number.
     pub fn last_digits(&self, number: u64) -> &str {
         text_at(&self.padded, number % NUMBERS)
     }
