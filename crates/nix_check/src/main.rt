@@ -46,8 +46,8 @@ Ends with 0 if there are no errors, or none are left, 1 if there are some, 2 if 
 ",
     flags: &["--all", "--json", "--sarif", "--fix"],
     has_colors: true,
-    least: 0,
-    most: usize::MAX,
+    min_words: 0,
+    max_words: usize::MAX,
 };
 
 // Returns the format that the options ask for.

@@ -7,7 +7,7 @@ use Rattle.std.specs.List.{list_any}
 pub record Options : Type 0 where
   pub flags : List (List ℕ)
   pub has_colors : Bool
-  pub most : ℕ
+  pub max_words : ℕ
 
 -- the task: run, print the help, print the version, or refuse an argument
 pub data Task : Type 0 where
@@ -96,7 +96,7 @@ abbrev pub with_argument : Options → List ℕ → Parsed → Parsed
 with_argument options argument r =
     if r.is_color_next then with_color argument r
     else (if is_option argument && not r.only_words then (if bytes_eq argument (codes "--") then with_words r else with_option options argument r)
-    else (if nat_lt (length r.words) options.most then with_word argument r
+    else (if nat_lt (length r.words) options.max_words then with_word argument r
     else with_task (refuses argument) r))
 
 -- reads an argument, given the task so far; once the task is not to run the program, arguments are ignored

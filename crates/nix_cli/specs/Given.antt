@@ -8,7 +8,7 @@ use Rattle.nix_cli.specs.declared.arguments.Task.TheVariants as doing
 
 -- what a program accepts
 abbrev pub options_of : Program → Options
-options_of p = record { flags = map (λ flag. flag.now) p.flags.now; has_colors = p.has_colors; most = p.most }
+options_of p = record { flags = map (λ flag. flag.now) p.flags.now; has_colors = p.has_colors; max_words = p.max_words }
 
 -- the task
 abbrev pub task_of : Doing → Task

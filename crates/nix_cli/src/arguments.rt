@@ -32,9 +32,9 @@ pub struct Program {
     /// Whether the program has the option `--color WHEN`.
     pub has_colors: bool,
     /// The smallest number of arguments besides options.
-    pub least: usize,
+    pub min_words: usize,
     /// The largest number of arguments besides options.
-    pub most: usize,
+    pub max_words: usize,
 }
 
 // The task that a command line asks for.
@@ -191,7 +191,7 @@ impl Arguments {
             }
             return self.add_option(program, argument);
         }
-        if self.words.len() < program.most {
+        if self.words.len() < program.max_words {
             self.words.push(argument)?;
             return Ok(());
         }
@@ -242,7 +242,7 @@ fn parsed(rt: &HostRuntime, program: &Program) -> io::Result<Start> {
     let given = parse_arguments(rt.alloc(), program, &arguments)?;
     match &given.task {
         Task::Run if given.is_color_next => refuse(rt, program, "--color needs a value")?,
-        Task::Run if given.words.len() < program.least => {
+        Task::Run if given.words.len() < program.min_words => {
             refuse(rt, program, "missing argument")?
         }
         Task::Run => return Ok(Start::Run(given)),

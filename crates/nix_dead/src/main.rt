@@ -26,8 +26,8 @@ Ends with 0 if all names are used, 1 if some are not, 2 if a file has a syntax e
 ",
     flags: &["--json"],
     has_colors: false,
-    least: 0,
-    most: usize::MAX,
+    min_words: 0,
+    max_words: usize::MAX,
 };
 
 // Writes the unused names of the files that the command line names, and returns the highest exit status.

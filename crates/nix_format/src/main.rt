@@ -33,8 +33,8 @@ Ends with 0; with 1 if a file would change and --check or --diff is given; with 
 ",
     flags: &["--check", "--diff", "--print"],
     has_colors: false,
-    least: 0,
-    most: usize::MAX,
+    min_words: 0,
+    max_words: usize::MAX,
 };
 
 // Returns the task that the options ask for. `--diff` takes precedence over `--check`, and both over `--print`.

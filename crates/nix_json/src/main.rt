@@ -32,8 +32,8 @@ Ends with 0, with 1 if the text is refused or has no such PATH, or with 2 if som
 ",
     flags: &["--lossy", "--to-nix"],
     has_colors: false,
-    least: 0,
-    most: 2,
+    min_words: 0,
+    max_words: 2,
 };
 
 // Prints a converted text, or a refusal if there is none.

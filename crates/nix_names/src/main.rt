@@ -29,8 +29,8 @@ Ends with 0, or with 2 if a file has a syntax error, or something could not be r
 ",
     flags: &["--json"],
     has_colors: false,
-    least: 0,
-    most: usize::MAX,
+    min_words: 0,
+    max_words: usize::MAX,
 };
 
 // Reports the first syntax error of a text.

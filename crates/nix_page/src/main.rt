@@ -32,8 +32,8 @@ Ends with 0, or with 2 if something could not be read or written, or is too long
 ",
     flags: &[],
     has_colors: false,
-    least: 0,
-    most: 1,
+    min_words: 0,
+    max_words: 1,
 };
 
 // Writes the page of a text with a name.

@@ -31,8 +31,8 @@ Ends with 0, with 1 if the name cannot be renamed so, or with 2 if the text is n
 ",
     flags: &["-i"],
     has_colors: false,
-    least: 3,
-    most: 3,
+    min_words: 3,
+    max_words: 3,
 };
 
 // Returns the offset of a place: a line and a column from 1, or an offset.

@@ -28,8 +28,8 @@ Ends with 0 if there are no errors, 1 if there are some, 2 if something could no
 ",
     flags: &["--json"],
     has_colors: false,
-    least: 0,
-    most: usize::MAX,
+    min_words: 0,
+    max_words: usize::MAX,
 };
 
 // Prints the errors and the tree of a text, and returns the status.

@@ -59,8 +59,8 @@ if something cannot be read or written.
 ",
     flags: &["--raw", "--list", "--add", "--remove", "--force", "-i"],
     has_colors: false,
-    least: 1,
-    most: 3,
+    min_words: 1,
+    max_words: 3,
 };
 
 // Returns the message on a command line that is wrong, if it is.

@@ -4,14 +4,14 @@ use Rattle.std.specs.List.{range_with_len}
 use Rattle.std.specs.Prelude.{nat_lt}
 use Rattle.std.proofs.lemmas.Bool.{cases_Bool, cond-true, cond-false, ltb-true}
 use Rattle.std.proofs.lemmas.Grind.{flat_map-append}
-use Rattle.std.proofs.lemmas.List.{drop_more, map-append}
+use Rattle.std.proofs.lemmas.List.{drop_more, map-append, length-map}
 use Rattle.std.proofs.lemmas.Option.{slice_get_within, slice_get_read}
 use Rattle.nix_values.specs.declared.nodes.Node.{Node}
 use Rattle.nix_values.specs.declared.data.Item.{Item}
 use Rattle.nix_values.specs.Contents.{Entry, plain_of, entry_of}
 use Rattle.nix_values.specs.Built.{Built, built_of}
 use Rattle.nix_values.specs.Preorder.{parent_before, parent_of, is_same_parent, children_from, descendants, preorder}
-use Rattle.nix_values.specs.Groups.{group_of, groups_from, groups_of, members_from, numbers_in, order_of, IsNoneOf, AreDistinct}
+use Rattle.nix_values.specs.Groups.{group_of, groups_from, groups_of, members_from, numbers_in, preorder_numbers, IsPreorder, IsNoneOf, AreDistinct}
 use Rattle.nix_values.specs.ValueDepths.{depth_inside, depth_under, HasDepth, HaveDepths, entry_in, found_entry, entry_at, entries_at}
 use Rattle.nix_values.proofs.GroupLemmas.{ComeLater}
 use Rattle.nix_values.proofs.BuiltLemmas.{get_last, get_before}
@@ -147,7 +147,7 @@ unfolding descendants numbers_in
 described nodes deep zero parent = refl
 described nodes deep (suc levels) parent = each_described nodes deep levels parent (λ k. described nodes deep levels (Some k)) 0 nodes refl
 
-pub preorder_is : (nodes : List Node) → HaveDepths nodes → entries_at nodes (order_of (groups_of (map built_of nodes))) ≡ preorder (map built_of nodes)
+pub preorder_is : (nodes : List Node) → HaveDepths nodes → entries_at nodes (preorder_numbers (map built_of nodes)) ≡ preorder (map built_of nodes)
 preorder_is nodes deep =
     ap (λ n. entries_at nodes (numbers_in n (groups_of (map built_of nodes)) 0)) (groups_len 0 (map built_of nodes))
     ∙ sym (described nodes deep (length (map built_of nodes)) None)
@@ -163,9 +163,10 @@ entries_all nodes = each 0 nodes refl
         (ap (λ n. entries_at nodes (range_with_len n (length rest))) (add-one k) ∙ each (suc k) rest (drop_next nodes k x rest e))
 
 -- values that were added in preorder stay in this order
-pub preorder_all : (nodes : List Node) → HaveDepths nodes → order_of (groups_of (map built_of nodes)) ≡ range_with_len 0 (length nodes) →
-    map entry_in nodes ≡ preorder (map built_of nodes)
-preorder_all nodes deep same = sym (entries_all nodes) ∙ sym (ap (entries_at nodes) same) ∙ preorder_is nodes deep
+pub preorder_all : (nodes : List Node) → HaveDepths nodes → IsPreorder (map built_of nodes) → map entry_in nodes ≡ preorder (map built_of nodes)
+preorder_all nodes deep same =
+    sym (entries_all nodes) ∙ sym (ap (λ n. entries_at nodes (range_with_len 0 n)) (length-map nodes built_of)) ∙ sym (ap (entries_at nodes) same)
+    ∙ preorder_is nodes deep
 
 -- ---- one more value
 

@@ -1,5 +1,5 @@
 -- Whatever parts of a JSON text remain, some bytes complete it.
-use Rattle.std.proofs.Common.{◌≡◌, ◌∙◌, ℕ, ◌+◌, true, false, List, [], ◌∷◌, ◌++◌, ap, refl, Some}
+use Rattle.std.proofs.Common.{◌≡◌, ◌∙◌, ℕ, true, false, List, [], ◌∷◌, ◌++◌, ap, refl, Some}
 use Rattle.std.specs.Prelude.{codes, option_and_then}
 use Rattle.nix_values.specs.Contents.{Entry, null}
 use Rattle.nix_values.specs.JsonContent.{content}

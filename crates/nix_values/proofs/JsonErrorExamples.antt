@@ -1,5 +1,5 @@
 -- The errors of certain texts, by computation. Most of the texts are those of JSONTestSuite that a parser must refuse.
-use Rattle.std.proofs.Common.{◌≡◌, ℕ, true, List, [], ◌∷◌, ◌++◌, refl, Some, None}
+use Rattle.std.proofs.Common.{◌≡◌, ℕ, List, [], ◌∷◌, ◌++◌, refl, Some, None}
 use Rattle.std.specs.Prelude.{codes}
 use Rattle.nix_values.specs.declared.json_reader.TheConstants.{MOST_DEPTH}
 use Rattle.nix_values.specs.declared.json_error.JsonReason.{JsonReason}

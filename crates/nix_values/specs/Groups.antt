@@ -1,6 +1,6 @@
 -- Values by group: group 0 contains the outermost values, and group n + 1 the values inside value n.
 use Rattle.std.specs.Prelude.{◌≡◌, ℕ, zero, suc, ◌≤◌, ◌<◌, ◌==◌, List, [], ◌∷◌, length, drop, slice_get, slice_index, slice_index_or, Option, Some, None, if◌then◌else◌}
-use Rattle.std.specs.List.{flat_map}
+use Rattle.std.specs.List.{flat_map, range_with_len}
 use Rattle.nix_values.specs.declared.links.Links.{Links}
 use Rattle.nix_values.specs.Built.{Built}
 use Rattle.nix_values.specs.Preorder.{parent_of}
@@ -32,6 +32,14 @@ numbers_in (suc levels) groups group = flat_map (λ number. number ∷ numbers_i
 -- the numbers of all values, each followed by those of the values inside it
 abbrev pub order_of : List ℕ → List ℕ
 order_of groups = numbers_in (length groups) groups 0
+
+-- the numbers of values in preorder
+abbrev pub preorder_numbers : List Built → List ℕ
+preorder_numbers values = order_of (groups_of values)
+
+-- the values are in preorder
+abbrev pub IsPreorder : List Built → Type 0
+IsPreorder values = preorder_numbers values ≡ range_with_len 0 (length values)
 
 -- the first value in a group, from value n on
 abbrev pub first_from : ℕ → List ℕ → ℕ → Option ℕ

@@ -1,11 +1,10 @@
 //! Values that are being read, with their parents, in the order in which they were found.
 
 ghost use Rattle.std.specs.Prelude.{◌≡◌, ◌≤◌, ℕ, length, map, slice_get, slice_index, option_to_list, IsTrue, IfOk};
-ghost use Rattle.std.specs.List.{range_with_len};
 ghost use Rattle.nix_values.specs.Contents.{entry_of};
 ghost use Rattle.nix_values.specs.Built.{built_of, is_set_at, keys_of};
 ghost use Rattle.nix_values.specs.Preorder.{parent_before, preorder};
-ghost use Rattle.nix_values.specs.Groups.{groups_of, order_of, innermost, AreLinkedFrom, AreDistinct};
+ghost use Rattle.nix_values.specs.Groups.{groups_of, preorder_numbers, IsPreorder, innermost, AreLinkedFrom, AreDistinct};
 ghost use Rattle.nix_values.specs.ValueDepths.{HaveDepths, depth_under, entry_in, entry_at, entries_at};
 
 use crate::attributes::Values;
@@ -97,7 +96,7 @@ impl Nodes {
 
     // Returns whether the values were added in the order of the data: each one inside the last value before it, or inside one that contains that.
     fn is_in_order(&self, alloc: Global) -> Result<bool, AllocError>
-        ensures { IfOk result (λ is. IsTrue is → order_of (groups_of (map built_of self.now.nodes.items)) ≡ range_with_len 0 (length self.now.nodes.items)) }
+        ensures { IfOk result (λ is. IsTrue is → IsPreorder (map built_of self.now.nodes.items)) }
     {
         // The last value and those that contain it, outermost first.
         let mut around = Vec::new(alloc);
@@ -124,7 +123,7 @@ impl Nodes {
 
     // Returns the numbers of the values in the order of the data: each is followed by those inside it.
     fn order(&self, alloc: Global) -> Result<Vec<usize>, AllocError>
-        ensures { IfOk result (λ order. order.items ≡ order_of (groups_of (map built_of self.now.nodes.items))) }
+        ensures { IfOk result (λ order. order.items ≡ preorder_numbers (map built_of self.now.nodes.items)) }
     {
         let links = self.links(alloc)?;
         let mut order = Vec::with_capacity(alloc, self.nodes.len())?;

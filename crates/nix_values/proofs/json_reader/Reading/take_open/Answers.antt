@@ -5,7 +5,7 @@ use Rattle.nix_values.specs.Json.{opening}
 use Rattle.nix_values.proofs.JsonLocationLemmas.{placed_open}
 use Rattle.nix_values.proofs.JsonStateLemmas.{open_wrong}
 use Rattle.nix_values.proofs.JsonDistinctLemmas.{distinct_added, opened_next}
-use Rattle.nix_values.proofs.JsonReasonLemmas.{open_stop, deep_stop}
+use Rattle.nix_values.proofs.JsonReasonLemmas.{open_stop}
 use Rattle.nix_values.proofs.JsonNameLemmas.{keeps_open}
 use Rattle.nix_values.proofs.JsonReadingLemmas.{stopped, takes_open}
 use Rattle.nix_values.proofs.json_reader.Reading.take_open.Goals as goal

@@ -36,4 +36,4 @@ returns c = λ t.
     (omega (arith, len, ap length c.deref-node-items.ensures.value, c.loop-number-test.false))
     (omega (arith, len, ap length c.deref-node-items.ensures.value, c.loop-number.auto.number-end))
     c.loop-number.invariant
-    ∙ ap (range_with_len 0) len
+    ∙ ap (range_with_len 0) (groups_len 0 values)
