@@ -1,5 +1,5 @@
 //! Does jobs that users of the library wait for, on texts that it makes itself: `nix_workloads JOB SEED SIZE` prints how many results the job had, and a
-//! digest of them all. `all` does each job but `anew` and `again`, and `compare` compares what these two call. A job calls the public functions of the
+//! digest of them all. `all` does the jobs of `JOBS`, and `compare` compares what `anew` and `again` call. A job calls the public functions of the
 //! libraries alone, and none that takes work twice on one text, or on one name or place of it.
 #![tactic(auto)]
 
@@ -18,6 +18,8 @@ mod keys;
 mod numbers;
 mod packages;
 mod pins;
+mod press;
+mod press_anew;
 mod results;
 mod small_edits;
 mod source;
@@ -31,6 +33,10 @@ use words::Words;
 
 // The jobs, in the order in which `all` does them.
 const JOBS: [&str; 6] = ["check", "index", "edit", "convert", "keys", "awkward"];
+
+// How the program is called.
+const USAGE: &str =
+    "nix_workloads JOB SEED SIZE, with one of these jobs: check index edit convert keys awkward anew again press press-anew break break-anew all compare";
 
 // Does a job on texts of a seed, and adds its results to the digest. An unknown job has no results.
 fn work(
@@ -50,6 +56,10 @@ fn work(
         "awkward" => awkward::awkward(alloc, words, seed, size, digest),
         "anew" => anew::anew(alloc, words, seed, size, digest),
         "again" => again::again(alloc, words, seed, size, digest),
+        "press" => Ok(press::press(alloc, words, "x", seed, size, digest)?),
+        "press-anew" => Ok(press_anew::press_anew(alloc, words, "x", seed, size, digest)?),
+        "break" => Ok(press::press(alloc, words, "}", seed, size, digest)?),
+        "break-anew" => Ok(press_anew::press_anew(alloc, words, "}", seed, size, digest)?),
         _ => Ok(()),
     }
 }
@@ -87,8 +97,6 @@ fn main(rt: HostRuntime) -> io::Result<()> {
                 job => report(&rt, &words, job, seed, size),
             }
         }
-        _ => println!(rt;
-            "nix_workloads check|index|edit|convert|keys|awkward|anew|again|all|compare SEED SIZE"
-        ),
+        _ => println!(rt; "{USAGE}"),
     }
 }
