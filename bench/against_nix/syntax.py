@@ -255,10 +255,6 @@ def is_indented_name(node):
     return node.kind == "NODE_STRING" and node.text.startswith("''") and node.parent.kind in ("NODE_ATTRPATH", "NODE_INHERIT")
 
 
-def is_odd_space(node):
-    return node.kind == "TOKEN_WHITESPACE" and node.text.strip(" \t\r\n") != ""
-
-
 def is_zero_point(node):
     return node.kind == "TOKEN_FLOAT" and node.text == "0."
 
@@ -283,5 +279,5 @@ def is_comment_with_return(node):
     return node.kind == "TOKEN_COMMENT" and node.text.startswith("#") and "\r" in node.text.rstrip("\r\n")
 
 
-REFUSED_BY_NIX = [is_lambda_operand, is_many_in_one_name, is_indented_name, is_odd_space, is_zero_point, is_pipe, is_parted_path, is_empty_piece,
-                  is_doubled_home, is_comment_with_return]
+REFUSED_BY_NIX = [is_lambda_operand, is_many_in_one_name, is_indented_name, is_zero_point, is_pipe, is_parted_path, is_empty_piece, is_doubled_home,
+                  is_comment_with_return]

@@ -1,15 +1,16 @@
 -- The number of diagnostics of a text.
 use Rattle.std.proofs.Common.{◌≡◌, ◌∙◌, ℕ, ◌+◌, ◌<◌, ◌≤◌, take, Bool, true, false, List, [], ◌∷◌, ◌++◌, length, map, sym, ap, arith, refl}
-use Rattle.std.proofs.lemmas.List.{length_push, length-map, take-take}
+use Rattle.std.proofs.lemmas.List.{length_push, length-map, nil_from_length, take-take}
 use Rattle.std.proofs.Common.{length-append}
 use Rattle.rnix_kinds.specs.Lexical.Tokens.{tokens_of}
 use Rattle.rnix_green.specs.Tree.{Tree, Located}
 use Rattle.rnix_grammar.specs.{Fault.Fault, Parsed.IsParsed}
 use Rattle.nix_diagnostics.specs.declared.diagnostic.Diagnostic.{Diagnostic}
 use Rattle.nix_diagnostics.specs.Shown.{Shows, CoverRuns, none, shown, ShowsEach, none_each, one_each}
-use Rattle.nix_lints.specs.Repeated.{repeated_in}
-use Rattle.nix_check.specs.Lints.{finding_of, finding_at, repeated_findings}
+use Rattle.nix_lints.specs.{ForeignSpaces.foreign_in, Repeated.repeated_in}
+use Rattle.nix_check.specs.Lints.{finding_of, finding_in, finding_at, merged, findings_in}
 use Rattle.nix_check.specs.FoundDiagnostics.{AreErrors, AreFound, AreCounted}
+use Rattle.nix_check.proofs.MergedFindings.{length_merged}
 
 -- if there are no diagnostics, there are no errors
 none_shown : (root : Located) (all faults : List Fault) (ds : List Diagnostic) → Shows root all faults ds → length ds ≡ 0 → faults ≡ []
@@ -41,23 +42,31 @@ pub finds_none : (is_each : Bool) (root : Located) (faults : List Fault) (ds : L
 finds_none true root faults ds are is = shows_none_each root faults ds (are.each refl) is
 finds_none false root faults ds are is = shows_none root faults faults ds (are.shown refl) is
 
--- if two mapped lists are equal and one is empty, so is the other
-map_nil : {A B C : Type 0} (f : A → C) (g : B → C) (xs : List A) (ys : List B) → map f xs ≡ map g ys → length xs ≡ 0 → ys ≡ []
-map_nil f g xs [] is no_item = refl
-map_nil f g xs (y ∷ ys) is no_item = absurd (omega (arith, no_item, length-map xs f, ap length is))
+-- a text without findings has neither kind of them
+no_finding : (root : Located) → length (findings_in root) ≡ 0 → (foreign_in root ≡ []) × (repeated_in root ≡ [])
+no_finding root empty =
+    let both : length (map finding_in (foreign_in root)) + length (map finding_at (repeated_in root)) ≡ 0 =
+    sym (length_merged (map finding_in (foreign_in root)) (map finding_at (repeated_in root))) ∙ empty in (
+      nil_from_length (foreign_in root) (omega (arith, both, length-map (foreign_in root) finding_in)),
+      nil_from_length (repeated_in root) (omega (arith, both, length-map (repeated_in root) finding_at)),
+    )
 
--- a tree without diagnostics has no errors, and defines no attribute again
+-- a tree without diagnostics has no errors and no findings
 clean_tree : (is_each : Bool) (root : Located) (faults : List Fault) (ds : List Diagnostic) → AreFound is_each root faults ds → length ds ≡ 0 →
-    (faults ≡ []) × (repeated_in root ≡ [])
-clean_tree is_each root [] ds are no_item = (refl, map_nil finding_of finding_at ds (repeated_in root) (are.repeated refl) no_item)
+    (faults ≡ []) × (foreign_in root ≡ []) × (repeated_in root ≡ [])
+clean_tree is_each root [] ds are no_item =
+    let neither = no_finding root (sym (ap length (are.lints refl)) ∙ length-map ds finding_of ∙ no_item) in
+    (refl, neither.0, neither.1)
 clean_tree is_each root (f ∷ faults) ds are no_item =
     absurd (omega (arith, ap length (none_found is_each root (f ∷ faults) ds (are.errors (λ never. omega (arith, ap length never))) no_item)))
 
--- a tree without errors that defines no attribute again has no diagnostics
+-- a tree without errors and findings has no diagnostics
 clean_found : (is_each : Bool) (root : Located) (faults : List Fault) (ds : List Diagnostic) → AreFound is_each root faults ds →
-    (faults ≡ []) × (repeated_in root ≡ []) → length ds ≡ 0
+    (faults ≡ []) × (foreign_in root ≡ []) × (repeated_in root ≡ []) → length ds ≡ 0
 clean_found is_each root faults ds are clean =
-    sym (length-map ds finding_of) ∙ ap length (are.repeated clean.0) ∙ ap (λ rs. length (map finding_at rs)) clean.1
+    sym (length-map ds finding_of) ∙ ap length (are.lints clean.0)
+    ∙ ap (λ runs. length (merged (map finding_in runs) (map finding_at (repeated_in root)))) clean.1
+    ∙ ap (λ rs. length (map finding_at rs)) clean.2
 
 -- the diagnostics of a text are counted
 pub found_counted : (is_each : Bool) (text : List ℕ) (tree : Tree) (faults : List Fault) (found : List Diagnostic) (count : ℕ) →
@@ -80,15 +89,15 @@ pub errors_found : (is_each : Bool) (root : Located) (faults : List Fault) (ds :
     (length ds ≡ 0 → ⊥) → AreFound is_each root faults ds
 errors_found is_each root faults ds are some = record {
   errors = λ _. are;
-  repeated = λ no_fault. absurd (some (finds_none is_each root faults ds are no_fault));
+  lints = λ no_fault. absurd (some (finds_none is_each root faults ds are no_fault));
 }
 
--- the diagnostics are those of the attributes that are defined again, if there are no errors
-pub repeated_found : (is_each : Bool) (root : Located) (faults : List Fault) (errors ds : List Diagnostic) → AreErrors is_each root faults errors →
-    length errors ≡ 0 → map finding_of ds ≡ repeated_findings root → AreFound is_each root faults ds
-repeated_found is_each root faults errors ds are no_error is = record {
+-- the diagnostics are those of the findings, if there are no errors
+pub lints_found : (is_each : Bool) (root : Located) (faults : List Fault) (errors ds : List Diagnostic) → AreErrors is_each root faults errors →
+    length errors ≡ 0 → map finding_of ds ≡ findings_in root → AreFound is_each root faults ds
+lints_found is_each root faults errors ds are no_error is = record {
   errors = λ some. absurd (some (none_found is_each root faults errors are no_error));
-  repeated = λ _. is;
+  lints = λ _. is;
 }
 
 -- each error has its own diagnostic

@@ -5,4 +5,6 @@ pub mod NotesAsText
 pub mod CheckedFiles
 pub mod PrintedExamples
 pub mod AppendedPieces
-pub mod RepeatedFindings
+pub mod MergedFindings
+pub mod ReportedFindings
+pub mod LintExamples

@@ -1,7 +1,7 @@
 -- The output for some examples, by computation.
 use Rattle.std.proofs.Common.{◌≡◌, [], ◌∷◌, refl}
 use Rattle.std.specs.Prelude.{codes, true, false}
-use Rattle.nix_diagnostics.specs.declared.code.Code.TheVariants.{RepeatedAttribute}
+use Rattle.nix_diagnostics.specs.declared.code.Code.TheVariants.{RepeatedAttribute, ForeignSpace}
 use Rattle.nix_diagnostics.specs.declared.code.Severity.TheVariants.{Warning}
 use Rattle.nix_check.specs.{Listed.comma_joined, AsText.{message_text, severity_text}, AsSarif.{uri, sarif_tail, rule_members}, Printed.more_line, ErrorReport.{count_line, status_of}}
 
@@ -12,6 +12,9 @@ plain_message = refl
 -- the members with which a result of SARIF begins
 repeated_rule : rule_members RepeatedAttribute ≡ codes "{\"ruleId\":\"repeated-attribute\",\"level\":\"error\","
 repeated_rule = refl
+
+space_rule : rule_members ForeignSpace ≡ codes "{\"ruleId\":\"foreign-space\",\"level\":\"error\","
+space_rule = refl
 
 -- a warning without colors
 warning_text : severity_text false Warning (codes "unused") ≡ codes "warning: unused\n"

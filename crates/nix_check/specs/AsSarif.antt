@@ -14,7 +14,8 @@ abbrev pub sarif_rules : List ℕ
 sarif_rules =
     codes ",\"rules\":[{\"id\":\"syntax-error\",\"shortDescription\":{\"text\":\"A syntax error\"}},"
     ++ codes "{\"id\":\"nested-too-deep\",\"shortDescription\":{\"text\":\"Expressions that are nested too deep\"}},"
-    ++ codes "{\"id\":\"repeated-attribute\",\"shortDescription\":{\"text\":\"An attribute that is defined again\"}}]"
+    ++ codes "{\"id\":\"repeated-attribute\",\"shortDescription\":{\"text\":\"An attribute that is defined again\"}},"
+    ++ codes "{\"id\":\"foreign-space\",\"shortDescription\":{\"text\":\"White space that Nix does not read\"}}]"
 
 -- what precedes the first result: the version of the format, and the program with its version and its rules
 abbrev pub sarif_head : List ℕ → List ℕ → List ℕ

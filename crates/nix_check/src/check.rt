@@ -10,7 +10,7 @@ ghost use Rattle.nix_check.specs.Listed.{Prints};
 ghost use Rattle.nix_check.specs.Printed.{more_line, IsPrinted, AreFormed, ArePrinted, IsChecked};
 
 use crate::json::write_json;
-use crate::lints::repetitions;
+use crate::lints::lint_diagnostics;
 use crate::sarif::write_separated;
 use crate::style::{Format, Style};
 use crate::text::write_text;
@@ -49,7 +49,7 @@ fn find_errors(
     Ok(found)
 }
 
-// Returns the first diagnostics of a parsed text, at least up to a limit: of its errors, or, if it has none, of the attributes that are defined again.
+// Returns the first diagnostics of a parsed text, at least up to a limit: of its errors, or, if it has none, of what Nix refuses all the same.
 fn find(
     alloc: Global,
     read: &Parse,
@@ -60,8 +60,8 @@ fn find(
 {
     let errors = find_errors(alloc, read, is_each, limit)?;
     if errors.count == 0 {
-        let repeated = repetitions(alloc, &read.syntax(), at_least_one(limit))?;
-        return Ok(repeated);
+        let lints = lint_diagnostics(alloc, &read.syntax(), limit)?;
+        return Ok(lints);
     }
     Ok(errors)
 }

@@ -24,7 +24,10 @@ const DEPTH_RULE: &[u8] =
     b"{\"id\":\"nested-too-deep\",\"shortDescription\":{\"text\":\"Expressions that are nested too deep\"}},";
 
 const REPETITION_RULE: &[u8] =
-    b"{\"id\":\"repeated-attribute\",\"shortDescription\":{\"text\":\"An attribute that is defined again\"}}]";
+    b"{\"id\":\"repeated-attribute\",\"shortDescription\":{\"text\":\"An attribute that is defined again\"}},";
+
+const SPACE_RULE: &[u8] =
+    b"{\"id\":\"foreign-space\",\"shortDescription\":{\"text\":\"White space that Nix does not read\"}}]";
 // The part after the rules, up to the first result.
 const RESULTS: &[u8] = b"}},\"columnKind\":\"unicodeCodePoints\",\"results\":[";
 
@@ -34,7 +37,8 @@ fn write_rules<W: Write>(out: &mut W) -> io::Result<()>
 {
     out.write_all(SYNTAX_RULE)?;
     out.write_all(DEPTH_RULE)?;
-    out.write_all(REPETITION_RULE)
+    out.write_all(REPETITION_RULE)?;
+    out.write_all(SPACE_RULE)
 }
 
 /// Writes what precedes the first result.
@@ -72,8 +76,8 @@ fn is_unreserved(byte: u8) -> bool
     byte.is_ascii_alphanumeric() || matches!(byte, b'/' | b'.' | b'-' | b'_' | b'~')
 }
 
-// Returns the hexadecimal digit of a number below 16.
-fn upper_digit(number: u8) -> u8
+/// Returns the hexadecimal digit of a number below 16.
+pub fn upper_digit(number: u8) -> u8
     ensures { number < 16 → result ≡ upper_digit number }
 {
     if number < 10 {

@@ -2,7 +2,7 @@
 use Rattle.std.specs.Prelude.{ℕ, List, codes}
 use Rattle.rnix_grammar.specs.Fault.{Fault, too_deep}
 use Rattle.nix_diagnostics.specs.declared.code.Code.{Code}
-use Rattle.nix_diagnostics.specs.declared.code.Code.TheVariants.{SyntaxError, NestedTooDeep, RepeatedAttribute}
+use Rattle.nix_diagnostics.specs.declared.code.Code.TheVariants.{SyntaxError, NestedTooDeep, RepeatedAttribute, ForeignSpace}
 use Rattle.nix_diagnostics.specs.declared.code.Severity.{Severity}
 use Rattle.nix_diagnostics.specs.declared.code.Severity.TheVariants.{Error, Warning}
 
@@ -16,12 +16,14 @@ abbrev pub code_name : Code → List ℕ
 code_name SyntaxError = codes "syntax-error"
 code_name NestedTooDeep = codes "nested-too-deep"
 code_name RepeatedAttribute = codes "repeated-attribute"
+code_name ForeignSpace = codes "foreign-space"
 
 -- the severity of a code; so far every code is an error
 abbrev pub severity_of : Code → Severity
 severity_of SyntaxError = Error
 severity_of NestedTooDeep = Error
 severity_of RepeatedAttribute = Error
+severity_of ForeignSpace = Error
 
 -- the name for tools
 abbrev pub severity_name : Severity → List ℕ

@@ -36,6 +36,8 @@ pub enum Code {
     NestedTooDeep,
     /// An attribute that is defined again, which Nix refuses. This is not a syntax error, so no call of this crate returns it.
     RepeatedAttribute,
+    /// White space that Nix does not read, such as a no-break space. No call of this crate returns it either.
+    ForeignSpace,
 }
 
 impl Code {
@@ -57,6 +59,7 @@ impl Code {
             Code::SyntaxError => "syntax-error",
             Code::NestedTooDeep => "nested-too-deep",
             Code::RepeatedAttribute => "repeated-attribute",
+            Code::ForeignSpace => "foreign-space",
         }
     }
 
@@ -65,7 +68,8 @@ impl Code {
         ensures { result ≡ severity_of self }
     {
         match self {
-            Code::SyntaxError | Code::NestedTooDeep | Code::RepeatedAttribute => Severity::Error,
+            Code::SyntaxError | Code::NestedTooDeep => Severity::Error,
+            Code::RepeatedAttribute | Code::ForeignSpace => Severity::Error,
         }
     }
 }

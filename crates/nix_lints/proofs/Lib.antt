@@ -2,3 +2,5 @@ pub mod DefinedNamesLemmas
 pub mod TableLemmas
 pub mod RepeatedLemmas
 pub mod RepeatedExamples
+pub mod ForeignLemmas
+pub mod ForeignExamples

@@ -1,3 +1,4 @@
 pub mod Attributes
 pub mod Repeated
 pub mod DefinedNames
+pub mod ForeignSpaces

@@ -1,9 +1,11 @@
-//! Findings on texts without syntax errors: attributes that are defined twice.
+//! Findings on texts without syntax errors: attributes that are defined twice, and white space that Nix does not read.
 #![tactic(auto)]
 
 mod attributes;
 mod definition;
 mod entries;
+mod foreign;
 mod repeated;
 
+pub use foreign::{ForeignSpace, foreign_spaces};
 pub use repeated::{Repeated, repeated_attributes};

@@ -1,22 +1,19 @@
-use Rattle.std.proofs.Common.{◌≡◌, ◌∙◌, length, map, subst, sym, refl, rules, arith}
+use Rattle.std.proofs.Common.{◌≡◌, ◌∙◌, length, map, subst, sym, arith}
 use Rattle.rnix_green.specs.Tree.{Located}
 use Rattle.rnix.specs.ParseResult.{root_of}
-use Rattle.nix_check.{specs.Lints.{finding_of, repeated_findings}, proofs.CountedDiagnostics.{errors_found, repeated_found, first_take}}
+use Rattle.nix_check.{specs.Lints.{finding_of, findings_in}, proofs.CountedDiagnostics.{errors_found, lints_found, first_take}}
 use Rattle.nix_check.proofs.check.find.Goals as goal
 
 pub returns-then-errors-eq0 : goal.returns-then-errors-eq0
 returns-then-errors-eq0 c =
     let read = c.args.read.now in
     let errors = c.in_ok-errors.ensures in
-    let found = c.in_ok-repeated.ensures in
+    let found = c.in_ok-lints.ensures in
     let none : length errors.0 ≡ 0 = sym errors.2.count ∙ c.if-errors-eq0.true in (
       found.all,
-      repeated_found c.args.is_each (root_of read) read.faults errors.0 found.all errors.1 none
-          (subst (λ (root : Located). map finding_of found.all ≡ repeated_findings root) c.syntax.ensures found.are),
-      record {
-        first = first_take c.args.limit c.at_least_one.result found.all _ c.at_least_one.ensures.least found.first;
-        count = found.count;
-      },
+      lints_found c.args.is_each (root_of read) read.faults errors.0 found.all errors.1 none
+          (subst (λ (root : Located). map finding_of found.all ≡ findings_in root) c.syntax.ensures found.are),
+      record { first = first_take c.args.limit c.args.limit found.all _ (omega arith) found.first; count = found.count },
     )
 
 pub returns : goal.returns
