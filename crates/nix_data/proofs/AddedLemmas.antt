@@ -1,32 +1,13 @@
 -- Nodes that add their values one after another, and paths that are followed name by name.
-use Rattle.std.proofs.Common.{◌≡◌, ◌∙◌, ℕ, suc, ◌-◌, ◌<◌, true, false, List, [], ◌∷◌, length, ap, sym, refl, subst, arith, Option, Some, None}
-use Rattle.std.specs.Prelude.{Result, Ok, Err, OnOk, is_some, option_and_then, if◌then◌else◌}
+use Rattle.std.proofs.Common.{◌≡◌, ◌∙◌, ℕ, zero, suc, ◌-◌, ◌<◌, true, false, List, [], ◌∷◌, ap, sym, refl, subst, arith, Option, Some, None}
+use Rattle.std.specs.Prelude.{option_and_then}
 use Rattle.rnix_kinds.specs.declared.kinds.SyntaxKind.{SyntaxKind}
 use Rattle.rnix_kinds.specs.declared.kinds.SyntaxKind.TheVariants as k
-use Rattle.rnix_green.specs.Tree.{Located}
+use Rattle.rnix_green.specs.Tree.{Located, item_of}
 use Rattle.rnix_green.specs.Walk.{Spot, nodes_in, children_of}
-use Rattle.nix_values.specs.Contents.{Plain, set}
-use Rattle.nix_values.specs.Built.{Built, is_set_at, attribute_of}
+use Rattle.nix_values.specs.Built.{Built}
 use Rattle.nix_data.specs.Scalars.{key_of}
-use Rattle.nix_data.specs.Added.{Place, attribute, with_value, value_added, set_if, set_at, path_from, path_in, scalar_begun, begun_as, begun, all_added, inside_added, added}
-
--- an attribute that does not exist yet is added
-pub attribute_added : (number : ℕ) (name : List ℕ) (plain : Plain) (values more : List Built) → attribute_of values number name ≡ None →
-    more ≡ with_value (attribute number name) plain values → value_added (attribute number name) plain values ≡ Some more
-attribute_added number name plain values more none is =
-    ap (λ (found : Option ℕ). if is_some found then None else Some (with_value (attribute number name) plain values)) none ∙ ap Some (sym is)
-
--- the set for an attribute exists already, or is added
-pub set_there : (number : ℕ) (name : List ℕ) (values : List Built) (found : ℕ) → attribute_of values number name ≡ Some found →
-    is_set_at values found ≡ true → set_at (attribute number name) values ≡ Some (found, values)
-set_there number name values found is is_set =
-    ap (λ (found : Option ℕ). set_if found (attribute number name) values) is ∙ ap (λ b. if b then Some (found, values) else None) is_set
-
-pub set_added : (number : ℕ) (name : List ℕ) (values more : List Built) (last : ℕ) → attribute_of values number name ≡ None →
-    last ≡ length values → more ≡ with_value (attribute number name) set values → set_at (attribute number name) values ≡ Some (last, more)
-set_added number name values more last none counted is =
-    ap (λ (found : Option ℕ). set_if found (attribute number name) values) none
-    ∙ ap (λ n. Some (n, with_value (attribute number name) set values)) (sym counted) ∙ ap (λ vs. Some (last, vs)) (sym is)
+use Rattle.nix_data.specs.Added.{Place, attribute, set_from, path_from, path_in, scalar_begun, begun_as, begun, place_for, place_after, all_added, inside_added, added}
 
 -- a node of any other kind adds the value of an expression that is neither a list nor a set
 pub begun_other : (kind : SyntaxKind) (place : Place) (e : Located) (values : List Built) → (kind ≡ k.NODE_ROOT → ⊥) → (kind ≡ k.NODE_PAREN → ⊥) →
@@ -52,10 +33,16 @@ added_begun levels place e old first some is =
     let total : suc (levels - 1) ≡ levels = omega (arith, some) in
     subst (λ l. added l place e old ≡ inside_added (added (levels - 1)) e first) total (added_next (levels - 1) place e old first is)
 
--- what holds in any case holds if a call succeeds
-pub on_ok : {X E : Type 0} (result : Result X E) (P : Type 0) → P → OnOk result P
-on_ok (Ok found) P h = h
-on_ok (Err stop) P h = tt
+-- a node that cannot add its own value adds nothing
+pub begun_none : (levels : ℕ) (place : Place) (e : Located) (old : List Built) → begun place e old ≡ None → added levels place e old ≡ None
+unfolding added
+begun_none zero place e old none = refl
+begun_none (suc levels) place e old none = ap (option_and_then (inside_added (added levels) e)) none
+
+-- nothing is read at no level
+pub added_at_zero : (levels : ℕ) (place : Place) (e : Located) (old : List Built) → levels ≡ 0 → added levels place e old ≡ None
+unfolding added
+added_at_zero levels place e old none = ap (λ l. added l place e old) none
 
 -- a node without nodes inside that add values adds only its own
 pub begun_alone : (levels : ℕ) (place : Place) (e : Located) (old more : List Built) → 0 < levels → begun place e old ≡ Some (None, more) →
@@ -78,11 +65,23 @@ pub left_token : (add : Place → Located → List Built → Option (List Built)
 left_token add place remaining after e values whole first left = subst (λ spots. IsLeft add place spots values whole) first left
 
 -- a node adds its values, and one less remains
-pub left_node : (add : Place → Located → List Built → Option (List Built)) (place : Place) (remaining after : List Spot) (e : Located)
-    (values more : List Built) (whole : Option (List Built)) → remaining ≡ (true, e) ∷ after → add place e values ≡ Some more →
-    IsLeft add place remaining values whole → IsLeft add place after more whole
-left_node add place remaining after e values more whole first is left =
-    sym (ap (option_and_then (all_added add place (nodes_in after))) is) ∙ subst (λ spots. IsLeft add place spots values whole) first left
+pub left_node : (add : Place → Located → List Built → Option (List Built)) (place own rest : Place) (remaining after : List Spot) (e : Located)
+    (values more : List Built) (whole : Option (List Built)) → remaining ≡ (true, e) ∷ after → own ≡ place_for (item_of e).kind place →
+    rest ≡ place_after (item_of e).kind place → add own e values ≡ Some more → IsLeft add place remaining values whole → IsLeft add rest after more whole
+left_node add place own rest remaining after e values more whole first at_own at_rest is left =
+    let added_there : add (place_for (item_of e).kind place) e values ≡ Some more = ap (λ p. add p e values) (sym at_own) ∙ is in
+    ap (λ p. all_added add p (nodes_in after) more) at_rest
+    ∙ sym (ap (option_and_then (all_added add (place_after (item_of e).kind place) (nodes_in after))) added_there)
+    ∙ subst (λ spots. IsLeft add place spots values whole) first left
+
+-- if a node cannot add its values, nothing is added
+pub left_refused : (add : Place → Located → List Built → Option (List Built)) (place own : Place) (remaining after : List Spot) (e : Located)
+    (values : List Built) (whole : Option (List Built)) → remaining ≡ (true, e) ∷ after → own ≡ place_for (item_of e).kind place →
+    add own e values ≡ None → IsLeft add place remaining values whole → whole ≡ None
+left_refused add place own remaining after e values whole first at_own none left =
+    let none_there : add (place_for (item_of e).kind place) e values ≡ None = ap (λ p. add p e values) (sym at_own) ∙ none in
+    sym (subst (λ spots. IsLeft add place spots values whole) first left)
+    ∙ ap (option_and_then (all_added add (place_after (item_of e).kind place) (nodes_in after))) none_there
 
 -- no node remains
 pub left_none : (add : Place → Located → List Built → Option (List Built)) (place : Place) (remaining : List Spot) (values : List Built)
@@ -90,21 +89,21 @@ pub left_none : (add : Place → Located → List Built → Option (List Built))
 left_none add place remaining values whole none left = sym left ∙ ap (λ spots. all_added add place (nodes_in spots) values) none
 
 -- the place to which a path leads from the last name that was read, or from a set before the first name
-abbrev pub path_left : ℕ → Option (List ℕ) → List Located → List Built → Option (Place × List Built)
-path_left number None attributes values = path_in number attributes values
-path_left number (Some name) attributes values = path_from number name attributes values
+abbrev pub path_left : ℕ → ℕ → Option (List ℕ) → List Located → List Built → Option (Place × List Built)
+path_left first number None attributes values = path_in first number attributes values
+path_left first number (Some name) attributes values = path_from first number name attributes values
 
 -- reading the first name of a path
-pub path_first : (number : ℕ) (remaining after : List Located) (attr : Located) (name : List ℕ) (values : List Built) → remaining ≡ attr ∷ after →
-    key_of attr ≡ Some name → path_left number None remaining values ≡ path_left number (Some name) after values
-path_first number remaining after attr name values first is =
-    ap (λ attributes. path_in number attributes values) first ∙ ap (option_and_then (λ name. path_from number name after values)) is
+pub path_first : (start number : ℕ) (remaining after : List Located) (attr : Located) (name : List ℕ) (values : List Built) → remaining ≡ attr ∷ after →
+    key_of attr ≡ Some name → path_left start number None remaining values ≡ path_left start number (Some name) after values
+path_first start number remaining after attr name values first is =
+    ap (λ attributes. path_in start number attributes values) first ∙ ap (option_and_then (λ name. path_from start number name after values)) is
 
 -- reading one more name: the one before is that of a set
-pub path_more : (number : ℕ) (before : List ℕ) (remaining after : List Located) (attr : Located) (name : List ℕ) (values : List Built) (inner : ℕ)
-    (more : List Built) → remaining ≡ attr ∷ after → key_of attr ≡ Some name → set_at (attribute number before) values ≡ Some (inner, more) →
-    path_left number (Some before) remaining values ≡ path_left inner (Some name) after more
-path_more number before remaining after attr name values inner more first is found =
-    ap (λ attributes. path_from number before attributes values) first
-    ∙ ap (option_and_then (λ (inner : ℕ × List Built). option_and_then (λ next_name. path_from inner.0 next_name after inner.1) (key_of attr))) found
-    ∙ ap (option_and_then (λ next_name. path_from inner next_name after more)) is
+pub path_more : (start number : ℕ) (before : List ℕ) (remaining after : List Located) (attr : Located) (name : List ℕ) (values : List Built) (inner : ℕ)
+    (more : List Built) → remaining ≡ attr ∷ after → key_of attr ≡ Some name → set_from start (attribute number before) values ≡ Some (inner, more) →
+    path_left start number (Some before) remaining values ≡ path_left 0 inner (Some name) after more
+path_more start number before remaining after attr name values inner more first is found =
+    ap (λ attributes. path_from start number before attributes values) first
+    ∙ ap (option_and_then (λ (inner : ℕ × List Built). option_and_then (λ next_name. path_from 0 inner.0 next_name after inner.1) (key_of attr))) found
+    ∙ ap (option_and_then (λ next_name. path_from 0 inner next_name after more)) is

@@ -1,7 +1,9 @@
 pub mod DifferentNames
 pub mod MeaningLemmas
 pub mod ReadAlikeLemmas
+pub mod RefusalLemmas
 pub mod AddedLemmas
+pub mod ScalarsLemmas
 pub mod WrittenLemmas
 pub mod UniqueLemmas
 pub mod AddedExamples

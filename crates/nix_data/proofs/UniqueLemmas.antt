@@ -1,6 +1,6 @@
--- A text means at most one list of values.
+-- A text means at most one list of values, and has at most one list of data.
 use Rattle.std.proofs.Common.{◌≡◌, ◌∙◌, ℕ, zero, suc, ◌+◌, ℤ, Bool, true, false, arith, List, [], ◌∷◌, ◌++◌, get_or, ap, ap₂, sym, refl, subst, Option, Some, None}
-use Rattle.std.specs.Prelude.{◌<◌, ◌^◌, codes, unwrap_or, IsSomeAnd, unsigned_abs, FitsSigned, if◌then◌else◌}
+use Rattle.std.specs.Prelude.{◌<◌, ◌^◌, codes, unwrap_or, option_map, IsSomeAnd, unsigned_abs, FitsSigned, if◌then◌else◌}
 use Rattle.std.specs.Int.{w64}
 use Rattle.std.proofs.lemmas.Bool.{cond-false}
 use Rattle.std.proofs.lemmas.Fmt.{signed_decimal_injective}
@@ -21,8 +21,10 @@ use Rattle.nix_values.specs.Contents.{Plain, null, boolean, integer, float, text
 use Rattle.nix_data.specs.declared.nix_writer.TheConstants.{LEVELS}
 use Rattle.rnix.specs.StringParts.{plain_value}
 use Rattle.nix_data.specs.Meaning.{expression_text, unsigned, is_integer, is_float, word_of, HasValue, unwrapped, parts_of, IsPart, InOrder, MeansPart, Means}
-use Rattle.nix_data.specs.Misread.{is_altered}
-use Rattle.nix_data.specs.Written.{IsWritten}
+use Rattle.nix_values.specs.Preorder.{preorder}
+use Rattle.nix_data.specs.Misread.{is_altered, IsReadAlike}
+use Rattle.nix_data.specs.Added.{values_of}
+use Rattle.nix_data.specs.Written.{IsWritten, IsData, IsNoData}
 
 -- the sorts of expressions with values
 data Sort : Type 0 where
@@ -186,10 +188,29 @@ one_found (Some e) levels a b p q = one_meaning levels 0 [] e a b p q
 abbrev root_at : Tree → Located
 root_at t = record { tree = t; number = 0 }
 
+-- each text has only one reading
+abbrev pub IsReadOnce : Type 0
+IsReadOnce = (ls : List Lexeme) (t u : Tree) (ds es : List Fault) → IsReading ls t ds → IsReading ls u es → (t ≡ u) × (ds ≡ es)
+
 -- a text means at most one list of values, if it has only one reading
-pub one_written : ((ls : List Lexeme) (t u : Tree) (ds es : List Fault) → IsReading ls t ds → IsReading ls u es → (t ≡ u) × (ds ≡ es)) →
-    (bytes : List ℕ) (a b : List Entry) → IsWritten bytes a → IsWritten bytes b → a ≡ b
+pub one_written : IsReadOnce → (bytes : List ℕ) (a b : List Entry) → IsWritten bytes a → IsWritten bytes b → a ≡ b
 one_written one bytes a b p q =
     let same = one (tokens_of bytes) p.read.tree q.read.tree p.read.faults q.read.faults p.is_read.reading q.is_read.reading in
     one_found (child_of is_expr 0 (root_at p.read.tree)) LEVELS a b p.is_meant
     (subst (λ t. IsSomeAnd (child_of is_expr 0 (root_at t)) (λ e. Means LEVELS 0 [] e b)) (sym same.0) q.is_meant)
+
+-- a text has at most one list of data, if it has only one reading
+pub one_data : IsReadOnce → (bytes : List ℕ) (a b : List Entry) → IsData bytes a → IsData bytes b → a ≡ b
+one_data one bytes a b p q =
+    let same = one (tokens_of bytes) p.read.tree q.read.tree p.read.faults q.read.faults p.is_read.reading q.is_read.reading in
+    let found : Some a ≡ Some b = sym p.has_data ∙ ap (λ t. option_map preorder (values_of (root_at t))) same.0 ∙ q.has_data in
+    cc found
+
+-- a text with data is not refused, if it has only one reading
+pub data_or_none : IsReadOnce → (bytes : List ℕ) (a : List Entry) → IsData bytes a → IsNoData bytes → ⊥
+data_or_none one bytes a p q =
+    let same = one (tokens_of bytes) p.read.tree q.read.tree p.read.faults q.read.faults p.is_read.reading q.is_read.reading in
+    let none : values_of (root_at q.read.tree) ≡ None = q.has_none (sym same.1 ∙ p.no_errors) (subst (λ t. IsReadAlike (root_at t)) same.0 p.is_alike) in
+    let found : None ≡ Some a =
+    sym (ap (option_map preorder) none) ∙ ap (λ t. option_map preorder (values_of (root_at t))) (sym same.0) ∙ p.has_data in
+    cc found

@@ -4,4 +4,5 @@ pub mod Misread
 pub mod Scalars
 pub mod Added
 pub mod Places
+pub mod Refusals
 pub mod Written

@@ -31,9 +31,13 @@ is_misread k.TOKEN_COMMENT text = ends_early text
 is_misread k.TOKEN_FLOAT text = lacks_digit text
 is_misread kind text = false
 
+-- a string is in `"`, not in `''`
+abbrev pub is_quoted : List ℕ → Bool
+is_quoted source = slice_index source 0 == 34
+
 -- Nix changes a string: it ends the string at the character 0, and reads a carriage return in `"` as a line feed
 abbrev pub is_altered : List ℕ → Bool
-is_altered source = list_any (λ b. b == 0) source || (slice_index source 0 == 34 && list_any (λ b. b == 13) source)
+is_altered source = list_any (λ b. b == 0) source || (is_quoted source && list_any (λ b. b == 13) source)
 
 -- an element is a token that Nix reads differently
 abbrev pub is_misread_at : Spot → Bool

@@ -1,6 +1,7 @@
 -- The values of expressions other than lists and sets, and the names of attributes.
-use Rattle.std.specs.Prelude.{ℕ, Bool, true, false, List, [], ◌∷◌, ◌++◌, codes, bytes_eq, Option, Some, None, option_map, option_and_then, neg_ℤ, if◌then◌else◌}
-use Rattle.std.specs.Str.Parse.{signed_digits_value}
+use Rattle.std.specs.Prelude.{ℕ, ◌==◌, nat_lt, ◌^◌, ℤ, pos, negsuc, neg_ℤ, Bool, true, false, ◌&&◌, List, [], ◌∷◌, ◌++◌, length, codes, bytes_eq, Option, Some, None, option_map, option_and_then, if◌then◌else◌}
+use Rattle.std.specs.Str.{all_ascii_digits}
+use Rattle.std.specs.Str.Parse.{without_leading_sign, signed_digits_value}
 use Rattle.rnix_kinds.specs.declared.kinds.SyntaxKind.{SyntaxKind}
 use Rattle.rnix_kinds.specs.declared.kinds.SyntaxKind.TheVariants as k
 use Rattle.rnix_green.specs.Tree.{Located, item_of, text_at}
@@ -15,6 +16,7 @@ use Rattle.rnix_base.specs.TokenOperators.{unary_operator, first_operator}
 use Rattle.rnix.specs.NodeKinds.{is_expr}
 use Rattle.nix_values.specs.Contents.{Plain, null, boolean, integer, float, text}
 use Rattle.nix_values.specs.Floats.{float_text}
+use Rattle.nix_data.specs.Misread.{is_quoted}
 use Rattle.nix_data.specs.Meaning.{expression_text}
 
 -- the value of an identifier: only these three are data
@@ -23,9 +25,27 @@ named name =
     if bytes_eq name (codes "null") then Some null
     else (if bytes_eq name (codes "true") then Some (boolean true) else (if bytes_eq name (codes "false") then Some (boolean false) else None))
 
--- the integer that digits represent, negated if the flag is set
-abbrev pub integer_of : Bool → List ℕ → Plain
-integer_of is_negative digits = integer (if is_negative then neg_ℤ (signed_digits_value 10 digits) else signed_digits_value 10 digits)
+-- whether a number fits in 64 bits, with its sign
+abbrev pub fits : ℤ → Bool
+fits (pos n) = nat_lt n (2 ^ 63)
+fits (negsuc n) = nat_lt n (2 ^ 63)
+
+-- whether a text is digits, at least one, perhaps after a sign
+abbrev pub is_numeral : List ℕ → Bool
+is_numeral source = nat_lt 0 (length (without_leading_sign source)) && all_ascii_digits (without_leading_sign source)
+
+-- the number that digits represent, if it fits in 64 bits
+abbrev pub number_in : List ℕ → Option ℤ
+number_in digits = if is_numeral digits && fits (signed_digits_value 10 digits) then Some (signed_digits_value 10 digits) else None
+
+-- a number as a value, if it fits in 64 bits
+abbrev pub integer_if : ℤ → Option Plain
+integer_if number = if fits number then Some (integer number) else None
+
+-- the integer that digits represent, negated if the flag is set. Both numbers must fit in 64 bits: Nix reads the digits before it negates them, so -2^63 cannot
+-- be written with its digits.
+abbrev pub integer_of : Bool → List ℕ → Option Plain
+integer_of is_negative digits = option_and_then (λ number. integer_if (if is_negative then neg_ℤ number else number)) (number_in digits)
 
 -- the text of a number, with a minus sign if it is negated
 abbrev pub signed : Bool → List ℕ → List ℕ
@@ -34,7 +54,7 @@ signed is_negative digits = (if is_negative then codes "-" else []) ++ digits
 -- the value of a literal, negated if the flag is set; the value of a URI is its text, and cannot be negated
 abbrev pub literal_value : Bool → Option LiteralKind → Option Plain
 literal_value is_negative None = None
-literal_value is_negative (Some (literal.Integer token)) = Some (integer_of is_negative (text_at token))
+literal_value is_negative (Some (literal.Integer token)) = integer_of is_negative (text_at token)
 literal_value is_negative (Some (literal.Float token)) = option_map float (float_text (signed is_negative (text_at token)))
 literal_value is_negative (Some (literal.Uri token)) = if is_negative then None else Some (text (text_at token))
 
@@ -72,11 +92,19 @@ scalar_of_kind _ e = None
 abbrev pub scalar_of : Located → Option Plain
 scalar_of e = scalar_of_kind (item_of e).kind e
 
+-- the name that `${` and `}` denote: the value of the string between them, if that is the only node there
+abbrev pub dynamic_of : Located → Option (List ℕ)
+dynamic_of e = if length (nodes_in (children_of e)) == 1 then option_and_then expression_text (child_of is_expr 0 e) else None
+
+-- the name that a string denotes: Nix accepts no string in `''` as a name
+abbrev pub quoted_name : Located → Option (List ℕ)
+quoted_name e = if is_quoted (text_at e) then expression_text e else None
+
 -- the name that an attribute of a kind denotes
 abbrev pub key_of_kind : SyntaxKind → Located → Option (List ℕ)
 key_of_kind k.NODE_IDENT e = Some (text_at e)
-key_of_kind k.NODE_STRING e = expression_text e
-key_of_kind k.NODE_DYNAMIC e = option_and_then expression_text (child_of is_expr 0 e)
+key_of_kind k.NODE_STRING e = quoted_name e
+key_of_kind k.NODE_DYNAMIC e = dynamic_of e
 key_of_kind _ e = None
 
 -- the name that an attribute in a path denotes: `a`, `"a"` or `${"a"}`

@@ -9,7 +9,7 @@ use Rattle.rnix.specs.ParseResult.{Reading, root_of}
 use Rattle.nix_values.specs.Contents.{Entry}
 use Rattle.nix_data.specs.declared.nix_writer.TheConstants.{LEVELS}
 use Rattle.nix_data.specs.Meaning.{Means}
-use Rattle.nix_data.specs.Added.{HasData}
+use Rattle.nix_data.specs.Added.{HasData, HasNoData}
 use Rattle.nix_data.specs.Misread.{IsReadAlike}
 
 -- the expression of a tree means these values, which nest less than `LEVELS` deep
@@ -31,3 +31,9 @@ pub record IsData (text : List ℕ) (entries : List Entry) : Type 0 where
   pub no_errors : read.faults ≡ []
   pub is_alike : IsReadAlike (root_of read)
   pub has_data : HasData (root_of read) entries
+
+-- a text has errors, or its tree has no data that Nix reads alike
+pub record IsNoData (text : List ℕ) : Type 0 where
+  pub read : Reading
+  pub is_read : IsParsed (tokens_of text) read.tree read.faults
+  pub has_none : read.faults ≡ [] → HasNoData (root_of read)

@@ -11,7 +11,7 @@ mod no_data;
 mod scalars;
 mod values;
 
-pub use laws::one_meaning;
+pub use laws::{one_data, one_meaning};
 pub use nix_reader::{data_in, data_of};
 pub use nix_writer::nix_of;
 pub use no_data::{NoData, Reason};

@@ -3,7 +3,7 @@
 ghost use Rattle.std.specs.Prelude.{◌≡◌, ◌==◌, not, false, is_some, slice_index};
 ghost use Rattle.std.specs.List.{list_all, list_any};
 ghost use Rattle.rnix_green.specs.Tree.{item_of, text_at};
-ghost use Rattle.nix_data.specs.Misread.{is_blank, has_text_after_return, ends_early, lacks_digit, is_misread, is_altered};
+ghost use Rattle.nix_data.specs.Misread.{is_blank, has_text_after_return, ends_early, lacks_digit, is_misread, is_quoted, is_altered};
 
 use crate::no_data::{NoData, Reason};
 use rnix::{SyntaxKind, SyntaxToken, TextRange};
@@ -79,12 +79,19 @@ fn has_byte(text: &[u8], wanted: u8) -> bool
     text.iter().any(|byte| *byte == wanted)
 }
 
+/// Returns whether a string with this source is in `"`, not in `''`.
+pub fn is_quoted(source: &str) -> bool
+    ensures { result ≡ is_quoted source.now }
+{
+    byte_at(source.as_bytes(), 0) == b'"'
+}
+
 /// Returns whether Nix changes a string with this source: it contains the character 0, or it is in `"` and contains a carriage return.
 pub fn is_altered(source: &str) -> bool
     ensures { result ≡ is_altered source.now }
 {
     let bytes = source.as_bytes();
-    has_byte(bytes, 0) || (byte_at(bytes, 0) == b'"' && has_byte(bytes, b'\r'))
+    has_byte(bytes, 0) || (is_quoted(source) && has_byte(bytes, b'\r'))
 }
 
 // Returns the index of the byte from which Nix reads a token differently, if it does.

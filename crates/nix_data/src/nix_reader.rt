@@ -1,16 +1,17 @@
 //! The data of a Nix text.
 
-ghost use Rattle.std.specs.Prelude.{◌≡◌, false, true, Some, None, IfOk, OnOk, IfSome, string_bytes};
+ghost use Rattle.std.specs.Prelude.{◌≡◌, false, true, Some, None, option_map, IfOk, IfErr, OnOk, OnErr, MatchResult, IfSome, string_bytes};
 ghost use Rattle.rnix_kinds.specs.declared.kinds.SyntaxKind.TheVariants as k;
 ghost use Rattle.rnix_green.specs.Tree.{item_of, text_at};
-ghost use Rattle.rnix_base.specs.Select.{nodes_of};
+ghost use Rattle.rnix_base.specs.Select.{HasKind, nodes_of};
 ghost use Rattle.rnix.specs.NodeKinds.{is_attr};
 ghost use Rattle.rnix.specs.Sums.{attr_node};
 ghost use Rattle.nix_values.specs.Contents.{plain_of, contents};
-ghost use Rattle.nix_data.specs.Added.{Place, path_in, scalar_begun, begun_as, begun, added, HasData};
+ghost use Rattle.nix_data.specs.Added.{path_in, scalar_begun, begun_as, begun, added, HasData, HasNoData};
 ghost use Rattle.nix_data.specs.Scalars.{scalar_of, key_of};
 ghost use Rattle.nix_data.specs.Misread.{is_misread, IsReadAlike};
-ghost use Rattle.nix_data.specs.Written.{IsData};
+ghost use Rattle.nix_data.specs.Written.{IsData, IsNoData};
+ghost use Rattle.nix_data.specs.Refusals.{Refuses, ReadsUnless};
 
 use crate::misread::misread;
 use crate::no_data::{NoData, Reason};
@@ -33,7 +34,8 @@ struct Reader {
 
 // Refuses a token that Nix reads differently.
 fn check(token: &SyntaxToken<'_>) -> Result<(), Stop>
-    ensures { OnOk result (is_misread (item_of token.now).kind (text_at token.now) ≡ false) }
+    ensures alike { OnOk result (is_misread (item_of token.now).kind (text_at token.now) ≡ false) }
+    ensures refused { Refuses result (is_misread (item_of token.now).kind (text_at token.now) ≡ true) }
 {
     match misread(token) {
         None => Ok(()),
@@ -43,7 +45,8 @@ fn check(token: &SyntaxToken<'_>) -> Result<(), Stop>
 
 // Refuses a token inside a node that Nix reads differently.
 fn check_tokens(node: &SyntaxNode<'_>) -> Result<(), Stop>
-    ensures { OnOk result (IsReadAlike node.now) }
+    ensures alike { OnOk result (IsReadAlike node.now) }
+    ensures refused { Refuses result (IsReadAlike node.now → ⊥) }
 {
     for element in node.descendants_with_tokens() {
         if let NodeOrToken::Token(token) = element {
@@ -54,11 +57,12 @@ fn check_tokens(node: &SyntaxNode<'_>) -> Result<(), Stop>
 }
 
 impl Reader {
-    ghost use Rattle.nix_data.specs.Places.{IsAt, Leads, Begins, values_read};
+    ghost use Rattle.nix_data.specs.Places.{place_of, values_read};
 
     // Returns the source of what is not data, if the text is read lossily.
     fn source(&self, node: &SyntaxNode<'_>, stop: Stop) -> Result<String, Stop>
-        ensures { OnOk result (self.now.is_lossy ≡ true) }
+        ensures lossy { OnOk result (self.now.is_lossy ≡ true) }
+        ensures same { IfErr result (λ error. self.now.is_lossy ≡ false → error ≡ stop) }
     {
         match stop {
             Stop::NoData(_) if self.is_lossy => Ok(String::from_str(self.alloc, node.text())?),
@@ -68,7 +72,7 @@ impl Reader {
 
     // Returns the name of an attribute.
     fn name(&self, attr: &Attr<'_>) -> Result<Name, Stop>
-        ensures { IfOk result (λ name. self.now.is_lossy ≡ false → key_of (attr_node attr.now) ≡ Some (string_bytes name.text)) }
+        ensures { ReadsUnless self.now.is_lossy result (key_of (attr_node attr.now)) (λ name. string_bytes name.text) }
     {
         let node = attr.syntax();
         let text = match key(self.alloc, node) {
@@ -83,7 +87,7 @@ impl Reader {
 
     // Returns the value of an expression that is neither a list nor a set.
     fn value(&self, node: &SyntaxNode<'_>) -> Result<Value, Stop>
-        ensures { IfOk result (λ value. self.now.is_lossy ≡ false → scalar_of node.now ≡ Some (plain_of value)) }
+        ensures { ReadsUnless self.now.is_lossy result (scalar_of node.now) plain_of }
     {
         match scalar(self.alloc, node) {
             Ok(value) => Ok(value),
@@ -93,8 +97,8 @@ impl Reader {
 
     // Adds the value of an expression that is neither a list nor a set.
     fn scalar(&self, values: &mut Values, target: Target, node: &SyntaxNode<'_>) -> Result<(), Stop>
-        ensures { OnOk result (self.now.is_lossy ≡ false → (place : Place) → IsAt target place →
-            scalar_begun place node.now (values_read values.old) ≡ Some (None, values_read values.new)) }
+        ensures { ReadsUnless self.now.is_lossy result
+            (scalar_begun (place_of target) node.now (values_read values.old)) (λ _. (None, values_read values.new)) }
     {
         let value = self.value(node)?;
         let _number = values.add(self.alloc, target, value, node.text_range())?;
@@ -108,8 +112,8 @@ impl Reader {
         target: Target,
         node: &SyntaxNode<'_>,
     ) -> Result<Target, Stop>
-        ensures { IfOk result (λ next. Leads self.now.is_lossy target
-            (λ place. begun_as k.NODE_LIST place node.now (values_read values.old)) next (values_read values.new)) }
+        ensures { ReadsUnless self.now.is_lossy result
+            (begun_as k.NODE_LIST (place_of target) node.now (values_read values.old)) (λ next. (Some (place_of next), values_read values.new)) }
     {
         let number = values.add(self.alloc, target, Value::List, node.text_range())?;
         Ok(Target::Inside(values.frame(number)))
@@ -137,8 +141,10 @@ impl Reader {
         target: Target,
         node: &SyntaxNode<'_>,
     ) -> Result<Option<Target>, Stop>
-        ensures { IfOk result (λ next. Begins self.now.is_lossy target
-            (λ place. begun_as k.NODE_ATTR_SET place node.now (values_read values.old)) next (values_read values.new)) }
+        ensures begun { IfOk result (λ next. self.now.is_lossy ≡ false →
+            begun_as k.NODE_ATTR_SET (place_of target) node.now (values_read values.old) ≡ Some (option_map place_of next, values_read values.new)) }
+        ensures refused { Refuses result (self.now.is_lossy ≡ false → HasKind k.NODE_ATTR_SET node.now →
+            begun_as k.NODE_ATTR_SET (place_of target) node.now (values_read values.old) ≡ None) }
     {
         let Some(set) = AttrSet::cast(node.clone()) else {
             return Err(evaluated(node));
@@ -153,9 +159,9 @@ impl Reader {
 
     // Reads the path of an entry of a set, and adds the sets on the path. Returns the place of the entry's value.
     fn path(&self, values: &mut Values, frame: Frame, path: &Attrpath<'_>) -> Result<Target, Stop>
-        ensures { IfOk result (λ target. self.now.is_lossy ≡ false →
-            (place : Place) × IsAt target place
-            × (path_in frame.node (nodes_of is_attr path.now) (values_read values.old) ≡ Some (place, values_read values.new))) }
+        ensures { ReadsUnless self.now.is_lossy result
+            (path_in frame.first frame.node (nodes_of is_attr path.now) (values_read values.old))
+            (λ target. (place_of target, values_read values.new)) }
     {
         let (mut set, mut first) = (frame.node, frame.first);
         let mut last: Option<Name> = None;
@@ -180,8 +186,11 @@ impl Reader {
         target: Target,
         node: &SyntaxNode<'_>,
     ) -> Result<Target, Stop>
-        ensures { IfOk result (λ next. Leads self.now.is_lossy target
-            (λ place. begun_as k.NODE_ATTRPATH_VALUE place node.now (values_read values.old)) next (values_read values.new)) }
+        ensures begun { IfOk result (λ next. self.now.is_lossy ≡ false →
+            begun_as k.NODE_ATTRPATH_VALUE (place_of target) node.now (values_read values.old)
+            ≡ Some (Some (place_of next), values_read values.new)) }
+        ensures refused { Refuses result (self.now.is_lossy ≡ false → HasKind k.NODE_ATTRPATH_VALUE node.now →
+            begun_as k.NODE_ATTRPATH_VALUE (place_of target) node.now (values_read values.old) ≡ None) }
     {
         let (Some(entry), Target::Inside(frame)) = (AttrpathValue::cast(node.clone()), target)
         else {
@@ -248,8 +257,8 @@ impl Reader {
         target: Target,
         node: &SyntaxNode<'_>,
     ) -> Result<Option<Target>, Stop>
-        ensures begun { IfOk result (λ next. Begins self.now.is_lossy target
-            (λ place. begun place node.now (values_read values.old)) next (values_read values.new)) }
+        ensures begun { ReadsUnless self.now.is_lossy result
+            (begun (place_of target) node.now (values_read values.old)) (λ next. (option_map place_of next, values_read values.new)) }
         ensures node { IfOk result (λ next. IfSome next (λ target. is_misread (item_of node.now).kind (text_at node.now) ≡ false)) }
     {
         match node.kind() {
@@ -279,7 +288,9 @@ impl Reader {
     ) -> Result<(), Stop>
         ensures alike { OnOk result (IsReadAlike node.now) }
         ensures added { OnOk result (self.now.is_lossy ≡ false →
-            (place : Place) → IsAt target place → added levels place node.now (values_read values.old) ≡ Some (values_read values.new)) }
+            added levels (place_of target) node.now (values_read values.old) ≡ Some (values_read values.new)) }
+        ensures refused { Refuses result (self.now.is_lossy ≡ false → IsReadAlike node.now →
+            added levels (place_of target) node.now (values_read values.old) ≡ None) }
     {
         if levels == 0 {
             return Err(evaluated(node));
@@ -303,14 +314,15 @@ impl Reader {
 fn read(alloc: Global, root: &SyntaxNode<'_>, is_lossy: bool) -> Result<Data, Stop>
     ensures alike { OnOk result (IsReadAlike root.now) }
     ensures data { IfOk result (λ found. is_lossy ≡ false → HasData root.now (contents found)) }
+    ensures refused { Refuses result (is_lossy ≡ false → HasNoData root.now) }
 {
     let mut values = Values::new(alloc);
     Reader { alloc, is_lossy }.read(&mut values, LEVELS, Target::Outermost, root)?;
     Ok(values.finish(alloc)?)
 }
 
-/// Returns the data of a tree without errors, or the first part that is not data. If `is_lossy`, such a part becomes a string with its source, but
-/// a token that Nix reads differently is refused.
+/// Returns the data of a tree without errors, or the first part that is not data. If `is_lossy`, such a part becomes a string with its source; only a token
+/// that Nix reads differently and an attribute that is already defined are refused.
 pub fn data_in(
     alloc: Global,
     root: &SyntaxNode<'_>,
@@ -318,6 +330,7 @@ pub fn data_in(
 ) -> Result<Result<Data, NoData>, AllocError>
     ensures alike { IfOk result (λ outcome. OnOk outcome (IsReadAlike root.now)) }
     ensures data { IfOk result (λ outcome. IfOk outcome (λ found. is_lossy ≡ false → HasData root.now (contents found))) }
+    ensures refused { IfOk result (λ outcome. OnErr outcome (is_lossy ≡ false → HasNoData root.now)) }
 {
     match read(alloc, root, is_lossy) {
         Ok(found) => Ok(Ok(found)),
@@ -327,9 +340,9 @@ pub fn data_in(
 }
 
 /// Returns the data of a Nix text, or the first part that is not data.
-#[tactic(auto, using(crate::proofs::WrittenLemmas::data_alike))]
+#[tactic(auto, using(crate::proofs::WrittenLemmas::has_errors))]
 pub fn data_of(alloc: Global, text: &str) -> Result<Result<Data, NoData>, AllocError>
-    ensures { IfOk result (λ outcome. IfOk outcome (λ found. IsData text.now (contents found))) }
+    ensures { IfOk result (λ outcome. MatchResult outcome (λ found. IsData text.now (contents found)) (λ reason. IsNoData text.now)) }
 {
     let parse = Root::parse(alloc, text)?;
     match parse.ok() {

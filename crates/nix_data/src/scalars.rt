@@ -1,17 +1,19 @@
 //! Values other than lists and sets, and the names of attributes.
 
-ghost use Rattle.std.specs.Prelude.{◌≡◌, Some, option_and_then, IfOk, string_bytes};
+ghost use Rattle.std.specs.Prelude.{◌≡◌, ◌==◌, Some, None, length, IfOk, string_bytes};
+ghost use Rattle.rnix_kinds.specs.declared.kinds.SyntaxKind.TheVariants as k;
 ghost use Rattle.rnix_green.specs.Tree.{item_of, text_at};
 ghost use Rattle.rnix_green.specs.Walk.{nodes_in, children_of};
 ghost use Rattle.rnix_base.specs.declared.literal.LiteralKind.TheVariants as literal;
 ghost use Rattle.rnix_base.specs.Literal.{first_literal};
-ghost use Rattle.rnix_base.specs.Select.{child_of};
-ghost use Rattle.rnix.specs.NodeKinds.{is_expr};
+ghost use Rattle.rnix_base.specs.Select.{HasKind};
 ghost use Rattle.nix_values.specs.Contents.{plain_of};
 ghost use Rattle.nix_data.specs.Meaning.{expression_text};
-ghost use Rattle.nix_data.specs.Scalars.{named, integer_of, literal_value, negated_of_kind, operation_of, path_value, scalar_of, key_of};
+ghost use Rattle.nix_data.specs.Scalars.{named, integer_of, literal_value, negated_of_kind, operation_of, path_value, scalar_of, dynamic_of, key_of};
+ghost use Rattle.nix_data.specs.Refusals.{Refuses, Reads};
+ghost use Rattle.nix_data.specs.declared.scalars.Stop.TheVariants.{Memory};
 
-use crate::misread::is_altered;
+use crate::misread::{is_altered, is_quoted};
 use crate::no_data::{NoData, Reason};
 use nix_values::{Value, float_of};
 use rnix::ast::{
@@ -31,12 +33,16 @@ pub enum Stop {
 }
 
 impl From<AllocError> for Stop {
+    ghost from_gives = { λ error stop. stop ≡ Memory };
+
     fn from(_error: AllocError) -> Stop {
         Stop::Memory
     }
 }
 
 impl<T: Drop> From<std::alloc::AllocFailed<T>> for Stop {
+    ghost from_gives = { λ error stop. stop ≡ Memory };
+
     fn from(_error: std::alloc::AllocFailed<T>) -> Stop {
         Stop::Memory
     }
@@ -78,7 +84,7 @@ fn altered(node: &SyntaxNode<'_>) -> Stop {
 
 // Returns the value of a string.
 fn string_value(alloc: Global, node: &SyntaxNode<'_>) -> Result<String, Stop>
-    ensures { IfOk result (λ text. expression_text node.now ≡ Some (string_bytes text)) }
+    ensures { Reads result (expression_text node.now) (λ text. string_bytes text) }
 {
     let Some(string) = Str::cast(node.clone()) else {
         return Err(evaluated(node));
@@ -97,7 +103,7 @@ fn string_value(alloc: Global, node: &SyntaxNode<'_>) -> Result<String, Stop>
 
 // Returns the value of an integer, negated if `is_negative`.
 fn integer(number: &Integer<'_>, is_negative: bool) -> Result<Value, Stop>
-    ensures { IfOk result (λ value. integer_of is_negative (text_at number.now) ≡ plain_of value) }
+    ensures { Reads result (integer_of is_negative (text_at number.now)) plain_of }
 {
     let too_large = no_data(Reason::TooLarge, number.syntax().text_range());
     let Ok(value) = number.value() else {
@@ -114,7 +120,7 @@ fn integer(number: &Integer<'_>, is_negative: bool) -> Result<Value, Stop>
 
 // Returns the value of a float, negated if `is_negative`.
 fn float(alloc: Global, number: &Float<'_>, is_negative: bool) -> Result<Value, Stop>
-    ensures { IfOk result (λ value. literal_value is_negative (Some (literal.Float number.now)) ≡ Some (plain_of value)) }
+    ensures { Reads result (literal_value is_negative (Some (literal.Float number.now))) plain_of }
 {
     let sign = if is_negative { "-" } else { "" };
     let digits = number.syntax().text();
@@ -127,7 +133,7 @@ fn float(alloc: Global, number: &Float<'_>, is_negative: bool) -> Result<Value, 
 
 // Returns the value of a URI: its text. It cannot be negated.
 fn uri(alloc: Global, address: &Uri<'_>, is_negative: bool) -> Result<Value, Stop>
-    ensures { IfOk result (λ value. literal_value is_negative (Some (literal.Uri address.now)) ≡ Some (plain_of value)) }
+    ensures { Reads result (literal_value is_negative (Some (literal.Uri address.now))) plain_of }
 {
     if is_negative {
         return Err(no_data(
@@ -140,7 +146,8 @@ fn uri(alloc: Global, address: &Uri<'_>, is_negative: bool) -> Result<Value, Sto
 
 // Returns the value of a number or a URI, negated if `is_negative`.
 fn literal(alloc: Global, node: &SyntaxNode<'_>, is_negative: bool) -> Result<Value, Stop>
-    ensures { IfOk result (λ value. literal_value is_negative (first_literal node.now) ≡ Some (plain_of value)) }
+    ensures value { IfOk result (λ value. literal_value is_negative (first_literal node.now) ≡ Some (plain_of value)) }
+    ensures refused { Refuses result (HasKind k.NODE_LITERAL node.now → literal_value is_negative (first_literal node.now) ≡ None) }
 {
     let Some(literal) = Literal::cast(node.clone()) else {
         return Err(evaluated(node));
@@ -159,7 +166,7 @@ fn negated(
     operation: &SyntaxNode<'_>,
     operand: &SyntaxNode<'_>,
 ) -> Result<Value, Stop>
-    ensures { IfOk result (λ value. negated_of_kind (item_of operand.now).kind operand.now ≡ Some (plain_of value)) }
+    ensures { Reads result (negated_of_kind (item_of operand.now).kind operand.now) plain_of }
 {
     match operand.kind() {
         SyntaxKind::NODE_LITERAL => literal(alloc, operand, true),
@@ -169,7 +176,8 @@ fn negated(
 
 // Returns the value of a prefix operation: a negative number.
 fn negative(alloc: Global, node: &SyntaxNode<'_>) -> Result<Value, Stop>
-    ensures { IfOk result (λ value. operation_of node.now ≡ Some (plain_of value)) }
+    ensures value { IfOk result (λ value. operation_of node.now ≡ Some (plain_of value)) }
+    ensures refused { Refuses result (HasKind k.NODE_UNARY_OP node.now → operation_of node.now ≡ None) }
 {
     let Some(operation) = UnaryOp::cast(node.clone()) else {
         return Err(evaluated(node));
@@ -182,7 +190,7 @@ fn negative(alloc: Global, node: &SyntaxNode<'_>) -> Result<Value, Stop>
 
 // Returns the value of an identifier: `null`, `true` or `false`.
 fn named(node: &SyntaxNode<'_>) -> Result<Value, Stop>
-    ensures { IfOk result (λ value. named (text_at node.now) ≡ Some (plain_of value)) }
+    ensures { Reads result (named (text_at node.now)) plain_of }
 {
     match node.text() {
         "null" => Ok(Value::Null),
@@ -194,7 +202,7 @@ fn named(node: &SyntaxNode<'_>) -> Result<Value, Stop>
 
 // Returns the value of a path: its text, if it has no interpolation.
 fn path(alloc: Global, node: &SyntaxNode<'_>) -> Result<Value, Stop>
-    ensures { IfOk result (λ value. path_value (nodes_in (children_of node.now)) (text_at node.now) ≡ Some (plain_of value)) }
+    ensures { Reads result (path_value (nodes_in (children_of node.now)) (text_at node.now)) plain_of }
 {
     match node.children().next() {
         Some(inside) => Err(evaluated(&inside)),
@@ -204,7 +212,7 @@ fn path(alloc: Global, node: &SyntaxNode<'_>) -> Result<Value, Stop>
 
 /// Returns the value of an expression that is neither a list nor a set.
 pub fn scalar(alloc: Global, node: &SyntaxNode<'_>) -> Result<Value, Stop>
-    ensures { IfOk result (λ value. scalar_of node.now ≡ Some (plain_of value)) }
+    ensures { Reads result (scalar_of node.now) plain_of }
 {
     match node.kind() {
         SyntaxKind::NODE_STRING => Ok(Value::Text(string_value(alloc, node)?)),
@@ -218,29 +226,42 @@ pub fn scalar(alloc: Global, node: &SyntaxNode<'_>) -> Result<Value, Stop>
     }
 }
 
+// Returns whether a node has exactly one child node.
+fn has_one_child(node: &SyntaxNode<'_>) -> bool
+    ensures { result ≡ (length (nodes_in (children_of node.now)) == 1) }
+{
+    let mut children = node.children();
+    children.next().is_some() && children.next().is_none()
+}
+
 // Returns the text of a computed name, if it is a single string.
+#[tactic(auto, using(crate::proofs::ScalarsLemmas::no_text))]
 fn dynamic(alloc: Global, node: &SyntaxNode<'_>) -> Result<String, Stop>
-    ensures { IfOk result (λ text. option_and_then expression_text (child_of is_expr 0 node.now) ≡ Some (string_bytes text)) }
+    ensures name { IfOk result (λ text. dynamic_of node.now ≡ Some (string_bytes text)) }
+    ensures refused { Refuses result (HasKind k.NODE_DYNAMIC node.now → dynamic_of node.now ≡ None) }
 {
     let Some(name) = Dynamic::cast(node.clone()) else {
         return Err(evaluated(node));
     };
+    if !has_one_child(node) {
+        return Err(evaluated(node));
+    }
     match name.expr() {
-        Some(string)
-            if string.syntax().kind() == SyntaxKind::NODE_STRING && node.children().count() == 1 =>
-            { string_value(alloc, string.syntax()) }
+        Some(string) if Str::can_cast(string.syntax().kind()) => {
+            string_value(alloc, string.syntax())
+        }
         _ => Err(evaluated(node)),
     }
 }
 
 /// Returns the name that an attribute in a path denotes.
 pub fn key(alloc: Global, node: &SyntaxNode<'_>) -> Result<String, Stop>
-    ensures { IfOk result (λ text. key_of node.now ≡ Some (string_bytes text)) }
+    ensures { Reads result (key_of node.now) (λ text. string_bytes text) }
 {
     match node.kind() {
         SyntaxKind::NODE_IDENT => Ok(String::from_str(alloc, node.text())?),
         SyntaxKind::NODE_DYNAMIC => dynamic(alloc, node),
-        SyntaxKind::NODE_STRING if node.text().starts_with('"') => string_value(alloc, node),
+        SyntaxKind::NODE_STRING if is_quoted(node.text()) => string_value(alloc, node),
         SyntaxKind::NODE_STRING => Err(no_data(Reason::IndentedName, node.text_range())),
         _ => Err(evaluated(node)),
     }

@@ -1,11 +1,11 @@
 //! The values of a text that is being read, and where the next one is added.
 
-ghost use Rattle.std.specs.Prelude.{◌≡◌, ℕ, Some, None, [], length, is_some, IfOk, string_bytes};
-ghost use Rattle.nix_values.specs.Contents.{contents, plain_of, set};
-ghost use Rattle.nix_values.specs.Built.{attribute_of};
+ghost use Rattle.std.specs.Prelude.{◌≡◌, [], length, IfOk, string_bytes};
+ghost use Rattle.rnix_green.specs.Tree.{item_of};
+ghost use Rattle.nix_values.specs.Contents.{contents, plain_of};
 ghost use Rattle.nix_values.specs.Preorder.{preorder};
 ghost use Rattle.nix_values.specs.Building.{IsAddedLast};
-ghost use Rattle.nix_data.specs.Added.{Place, attribute, value_added, set_at};
+ghost use Rattle.nix_data.specs.Added.{attribute, value_added, set_from, set_at, attribute_at, place_for, place_after};
 
 use crate::no_data::{NoData, Reason};
 use crate::scalars::{Stop, no_data};
@@ -55,11 +55,12 @@ pub enum Target {
 }
 
 impl Target {
-    ghost use Rattle.nix_data.specs.Places.{IsAt};
+    ghost use Rattle.nix_data.specs.Places.{place_of};
 
     /// Returns the place of the next node. The path of an entry has none, and only lists and sets have places for several nodes.
     pub fn for_node(&mut self, node: &SyntaxNode<'_>) -> Target
-        ensures { (place : Place) → IsAt self.old place → IsAt result place × IsAt self.new place }
+        ensures next { place_of result ≡ place_for (item_of node.now).kind (place_of self.old) }
+        ensures left { place_of self.new ≡ place_after (item_of node.now).kind (place_of self.old) }
     {
         if node.kind() == SyntaxKind::NODE_ATTRPATH {
             return Target::Nowhere;
@@ -80,7 +81,8 @@ pub struct Values {
 }
 
 impl Values {
-    ghost use Rattle.nix_data.specs.Places.{IsAt, values_read};
+    ghost use Rattle.nix_data.specs.Places.{place_of, values_read};
+    ghost use Rattle.nix_data.specs.Refusals.{Reads, Refuses};
 
     /// Returns no values.
     pub fn new(alloc: Global) -> Values
@@ -94,7 +96,8 @@ impl Values {
 
     /// Returns the list or set with a number, whose text begins here.
     pub fn frame(&self, node: usize) -> Frame
-        ensures { result.node ≡ node }
+        ensures node { result.node ≡ node }
+        ensures first { result.first ≡ length (values_read self.now) }
     {
         Frame {
             node,
@@ -120,7 +123,8 @@ impl Values {
         value: Value,
         range: TextRange,
     ) -> Result<usize, Stop>
-        ensures { IfOk result (λ number. IsAddedLast self.old.builder number parent (string_bytes name) (plain_of value) self.new.builder) }
+        ensures added { IfOk result (λ number. IsAddedLast self.old.builder number parent (string_bytes name) (plain_of value) self.new.builder) }
+        ensures accepted { Refuses result ⊥ }
     {
         self.name_ranges.push(range)?;
         Ok(self.builder.add(alloc, parent, name, value)?)
@@ -134,8 +138,9 @@ impl Values {
         value: Value,
     ) -> Result<usize, Stop>
         ensures number { IfOk result (λ number. number ≡ length (values_read self.old)) }
-        ensures added { IfOk result (λ number.
-            value_added (attribute entry.set (string_bytes entry.name.text)) (plain_of value) (values_read self.old) ≡ Some (values_read self.new)) }
+        ensures added { Reads result
+            (value_added (attribute entry.set (string_bytes entry.name.text)) (plain_of value) (values_read self.old))
+            (λ number. values_read self.new) }
     {
         let Entry { set, name } = entry;
         match self.builder.attribute(set, name.text.as_str()) {
@@ -153,8 +158,7 @@ impl Values {
         range: TextRange,
     ) -> Result<usize, Stop>
         ensures number { IfOk result (λ number. number ≡ length (values_read self.old)) }
-        ensures added { IfOk result (λ number. (place : Place) → IsAt target place →
-            value_added place (plain_of value) (values_read self.old) ≡ Some (values_read self.new)) }
+        ensures added { Reads result (value_added (place_of target) (plain_of value) (values_read self.old)) (λ number. values_read self.new) }
     {
         match target {
             Target::Outermost => self.push(alloc, None, String::new(alloc), value, range),
@@ -168,8 +172,8 @@ impl Values {
 
     /// Returns the set that is an attribute, adding it if there is none. A set with a number below `first` is defined elsewhere in the text.
     pub fn set_of(&mut self, alloc: Global, entry: Entry, first: usize) -> Result<usize, Stop>
-        ensures { IfOk result (λ number.
-            set_at (attribute entry.set (string_bytes entry.name.text)) (values_read self.old) ≡ Some (number, values_read self.new)) }
+        ensures { Reads result
+            (set_from first (attribute entry.set (string_bytes entry.name.text)) (values_read self.old)) (λ number. (number, values_read self.new)) }
     {
         let Entry { set, name } = entry;
         match self.builder.attribute(set, name.text.as_str()) {
@@ -181,7 +185,7 @@ impl Values {
 
     /// Returns the set at a place, adding it if there is none.
     pub fn set_at(&mut self, alloc: Global, target: Target, range: TextRange) -> Result<usize, Stop>
-        ensures { IfOk result (λ number. (place : Place) → IsAt target place → set_at place (values_read self.old) ≡ Some (number, values_read self.new)) }
+        ensures { Reads result (set_at (place_of target) (values_read self.old)) (λ number. (number, values_read self.new)) }
     {
         match target {
             Target::Attribute(entry) => self.set_of(alloc, entry, 0),
@@ -191,7 +195,7 @@ impl Values {
 
     /// Returns the place of an attribute that does not exist yet, or is a set. A set with a number below `first` is defined elsewhere in the text.
     pub fn attribute(&self, entry: Entry, first: usize) -> Result<Target, Stop>
-        ensures { IfOk result (λ target. IsAt target (attribute entry.set (string_bytes entry.name.text))) }
+        ensures { Reads result (attribute_at first entry.set (string_bytes entry.name.text) (values_read self.now)) place_of }
     {
         if let Some(found) = self.builder.attribute(entry.set, entry.name.text.as_str()) {
             if found < first || !self.builder.is_set(found) {

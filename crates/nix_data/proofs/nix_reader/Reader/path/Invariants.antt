@@ -14,6 +14,6 @@ invariant-loop-attr l = record {
   next : (goal.iterator-loop-attr).can_next l.attr-iterator;
   ends : (goal.iterator-loop-attr).is_finite l.attr-iterator;
   led : l.self.is_lossy ≡ false →
-      path_left l.set (option_map (λ (name : Name). string_bytes name.text) l.last) (those_of is_attr l.attr-iterator) (values_read l.values)
-      ≡ path_in l.fn.frame.node (nodes_of is_attr l.path) (values_read l.initial.values);
+      path_left l.first l.set (option_map (λ (name : Name). string_bytes name.text) l.last) (those_of is_attr l.attr-iterator) (values_read l.values)
+      ≡ path_in l.fn.frame.first l.fn.frame.node (nodes_of is_attr l.path) (values_read l.initial.values);
 }
