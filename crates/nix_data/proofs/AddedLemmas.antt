@@ -1,10 +1,10 @@
 -- Nodes that add their values one after another, and paths that are followed name by name.
-use Rattle.std.proofs.Common.{◌≡◌, ◌∙◌, ℕ, zero, suc, ◌-◌, ◌<◌, true, false, List, [], ◌∷◌, ap, sym, refl, subst, arith, Option, Some, None}
+use Rattle.std.proofs.Common.{◌≡◌, ◌∙◌, ℕ, zero, suc, ◌-◌, ◌<◌, List, [], ◌∷◌, ap, sym, refl, subst, arith, Option, Some, None}
 use Rattle.std.specs.Prelude.{option_and_then}
 use Rattle.rnix_kinds.specs.declared.kinds.SyntaxKind.{SyntaxKind}
 use Rattle.rnix_kinds.specs.declared.kinds.SyntaxKind.TheVariants as k
 use Rattle.rnix_green.specs.Tree.{Located, item_of}
-use Rattle.rnix_green.specs.Walk.{Spot, nodes_in, children_of}
+use Rattle.rnix_green.specs.Walk.{nodes_in, children_of}
 use Rattle.nix_values.specs.Built.{Built}
 use Rattle.nix_data.specs.Scalars.{key_of}
 use Rattle.nix_data.specs.Added.{Place, attribute, set_from, path_from, path_in, scalar_begun, begun_as, begun, place_for, place_after, all_added, inside_added, added}
@@ -50,43 +50,39 @@ pub begun_alone : (levels : ℕ) (place : Place) (e : Located) (old more : List 
 begun_alone levels place e old more some is = added_begun levels place e old (None, more) some is
 
 -- the remaining nodes add the rest of the values
-abbrev pub IsLeft : (Place → Located → List Built → Option (List Built)) → Place → List Spot → List Built → Option (List Built) → Type 0
-IsLeft add place remaining values whole = all_added add place (nodes_in remaining) values ≡ whole
+abbrev pub IsLeft : (Place → Located → List Built → Option (List Built)) → Place → List Located → List Built → Option (List Built) → Type 0
+IsLeft add place remaining values whole = all_added add place remaining values ≡ whole
 
 -- after a node adds its own value, all nodes inside it remain
-pub begun_inside : (levels : ℕ) (place inner : Place) (e : Located) (all : List Spot) (old more : List Built) → 0 < levels → all ≡ children_of e →
-    begun place e old ≡ Some (Some inner, more) → IsLeft (added (levels - 1)) inner all more (added levels place e old)
+pub begun_inside : (levels : ℕ) (place inner : Place) (e : Located) (all : List Located) (old more : List Built) → 0 < levels →
+    all ≡ nodes_in (children_of e) → begun place e old ≡ Some (Some inner, more) →
+    IsLeft (added (levels - 1)) inner all more (added levels place e old)
 begun_inside levels place inner e all old more some same is =
-    ap (λ spots. all_added (added (levels - 1)) inner (nodes_in spots) more) same ∙ sym (added_begun levels place e old (Some inner, more) some is)
-
--- a token adds nothing
-pub left_token : (add : Place → Located → List Built → Option (List Built)) (place : Place) (remaining after : List Spot) (e : Located) (values : List Built)
-    (whole : Option (List Built)) → remaining ≡ (false, e) ∷ after → IsLeft add place remaining values whole → IsLeft add place after values whole
-left_token add place remaining after e values whole first left = subst (λ spots. IsLeft add place spots values whole) first left
+    ap (λ nodes. all_added (added (levels - 1)) inner nodes more) same ∙ sym (added_begun levels place e old (Some inner, more) some is)
 
 -- a node adds its values, and one less remains
-pub left_node : (add : Place → Located → List Built → Option (List Built)) (place own rest : Place) (remaining after : List Spot) (e : Located)
-    (values more : List Built) (whole : Option (List Built)) → remaining ≡ (true, e) ∷ after → own ≡ place_for (item_of e).kind place →
+pub left_node : (add : Place → Located → List Built → Option (List Built)) (place own rest : Place) (remaining after : List Located) (e : Located)
+    (values more : List Built) (whole : Option (List Built)) → remaining ≡ e ∷ after → own ≡ place_for (item_of e).kind place →
     rest ≡ place_after (item_of e).kind place → add own e values ≡ Some more → IsLeft add place remaining values whole → IsLeft add rest after more whole
 left_node add place own rest remaining after e values more whole first at_own at_rest is left =
     let added_there : add (place_for (item_of e).kind place) e values ≡ Some more = ap (λ p. add p e values) (sym at_own) ∙ is in
-    ap (λ p. all_added add p (nodes_in after) more) at_rest
-    ∙ sym (ap (option_and_then (all_added add (place_after (item_of e).kind place) (nodes_in after))) added_there)
-    ∙ subst (λ spots. IsLeft add place spots values whole) first left
+    ap (λ p. all_added add p after more) at_rest
+    ∙ sym (ap (option_and_then (all_added add (place_after (item_of e).kind place) after)) added_there)
+    ∙ subst (λ nodes. IsLeft add place nodes values whole) first left
 
 -- if a node cannot add its values, nothing is added
-pub left_refused : (add : Place → Located → List Built → Option (List Built)) (place own : Place) (remaining after : List Spot) (e : Located)
-    (values : List Built) (whole : Option (List Built)) → remaining ≡ (true, e) ∷ after → own ≡ place_for (item_of e).kind place →
+pub left_refused : (add : Place → Located → List Built → Option (List Built)) (place own : Place) (remaining after : List Located) (e : Located)
+    (values : List Built) (whole : Option (List Built)) → remaining ≡ e ∷ after → own ≡ place_for (item_of e).kind place →
     add own e values ≡ None → IsLeft add place remaining values whole → whole ≡ None
 left_refused add place own remaining after e values whole first at_own none left =
     let none_there : add (place_for (item_of e).kind place) e values ≡ None = ap (λ p. add p e values) (sym at_own) ∙ none in
-    sym (subst (λ spots. IsLeft add place spots values whole) first left)
-    ∙ ap (option_and_then (all_added add (place_after (item_of e).kind place) (nodes_in after))) none_there
+    sym (subst (λ nodes. IsLeft add place nodes values whole) first left)
+    ∙ ap (option_and_then (all_added add (place_after (item_of e).kind place) after)) none_there
 
 -- no node remains
-pub left_none : (add : Place → Located → List Built → Option (List Built)) (place : Place) (remaining : List Spot) (values : List Built)
+pub left_none : (add : Place → Located → List Built → Option (List Built)) (place : Place) (remaining : List Located) (values : List Built)
     (whole : Option (List Built)) → remaining ≡ [] → IsLeft add place remaining values whole → whole ≡ Some values
-left_none add place remaining values whole none left = sym left ∙ ap (λ spots. all_added add place (nodes_in spots) values) none
+left_none add place remaining values whole none left = sym left ∙ ap (λ nodes. all_added add place nodes values) none
 
 -- the place to which a path leads from the last name that was read, or from a set before the first name
 abbrev pub path_left : ℕ → ℕ → Option (List ℕ) → List Located → List Built → Option (Place × List Built)

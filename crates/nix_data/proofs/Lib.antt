@@ -1,6 +1,5 @@
 pub mod DifferentNames
 pub mod MeaningLemmas
-pub mod ReadAlikeLemmas
 pub mod RefusalLemmas
 pub mod AddedLemmas
 pub mod ScalarsLemmas

@@ -1,18 +1,8 @@
 -- What results say, from what other results say.
 use Rattle.std.proofs.Common.{◌≡◌, ◌∙◌, true, ap, sym, Option, Some, None}
-use Rattle.std.specs.Prelude.{Result, Ok, Err, IfOk, OnOk, IsErrAnd}
+use Rattle.std.specs.Prelude.{Result, Ok, Err, IfOk, IsErrAnd}
 use Rattle.nix_data.specs.declared.scalars.Stop.{Stop}
 use Rattle.nix_data.specs.Refusals.{is_refusal, Refuses, Reads}
-
--- what holds in any case holds if a call succeeds
-pub on_ok : {X E : Type 0} (result : Result X E) (P : Type 0) → P → OnOk result P
-on_ok (Ok found) P h = h
-on_ok (Err error) P h = tt
-
--- a refusal also says what follows from what it says
-pub refuses_more : {X : Type 0} (result : Result X Stop) (P Q : Type 0) → (P → Q) → Refuses result P → Refuses result Q
-refuses_more (Ok found) P Q follows h = tt
-refuses_more (Err error) P Q follows h = λ refused. follows (h refused)
 
 -- a result with the same error says what that error says
 pub refuses_same : {X : Type 0} (result : Result X Stop) (error : Stop) (P : Type 0) → IsErrAnd result (λ other. other ≡ error) →

@@ -116,11 +116,11 @@ fn reason_for(kind: SyntaxKind, text: &str) -> (Reason, usize) {
     }
 }
 
-/// Returns why Nix reads a token differently, and where, if it does.
-pub fn misread(token: &SyntaxToken<'_>) -> Option<NoData>
-    ensures { is_some result ≡ is_misread (item_of token.now).kind (text_at token.now) }
+// Returns why Nix reads a token of a kind differently, and where, if it does.
+fn misread_as(kind: SyntaxKind, token: &SyntaxToken<'_>) -> Option<NoData>
+    ensures { is_some result ≡ is_misread kind (text_at token.now) }
 {
-    let (kind, text) = (token.kind(), token.text());
+    let text = token.text();
     let from = misread_from(kind, text.as_bytes())?;
     let (reason, len) = reason_for(kind, text.get(from..).unwrap_or(""));
     let start = token.text_range().start().saturating_add(from);
@@ -129,4 +129,18 @@ pub fn misread(token: &SyntaxToken<'_>) -> Option<NoData>
         range: TextRange::new(start, start.saturating_add(len)),
         first: None,
     })
+}
+
+/// Returns why Nix reads a token differently, and where, if it does.
+pub fn misread(token: &SyntaxToken<'_>) -> Option<NoData>
+    ensures { is_some result ≡ is_misread (item_of token.now).kind (text_at token.now) }
+{
+    // Most tokens have another kind, and no text is computed for them.
+    let kind = token.kind();
+    match kind {
+        SyntaxKind::TOKEN_WHITESPACE | SyntaxKind::TOKEN_COMMENT | SyntaxKind::TOKEN_FLOAT => {
+            misread_as(kind, token)
+        }
+        _ => None,
+    }
 }

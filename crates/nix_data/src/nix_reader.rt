@@ -1,15 +1,16 @@
 //! The data of a Nix text.
 
-ghost use Rattle.std.specs.Prelude.{◌≡◌, false, true, Some, None, option_map, IfOk, IfErr, OnOk, OnErr, MatchResult, IfSome, string_bytes};
+ghost use Rattle.std.specs.Prelude.{◌≡◌, false, true, Some, None, option_map, is_some, IfOk, IfErr, OnOk, OnErr, MatchResult, string_bytes};
+ghost use Rattle.std.specs.List.{list_any};
 ghost use Rattle.rnix_kinds.specs.declared.kinds.SyntaxKind.TheVariants as k;
-ghost use Rattle.rnix_green.specs.Tree.{item_of, text_at};
+ghost use Rattle.rnix_green.specs.Walk.{elements_of};
 ghost use Rattle.rnix_base.specs.Select.{HasKind, nodes_of};
 ghost use Rattle.rnix.specs.NodeKinds.{is_attr};
 ghost use Rattle.rnix.specs.Sums.{attr_node};
 ghost use Rattle.nix_values.specs.Contents.{plain_of, contents};
 ghost use Rattle.nix_data.specs.Added.{path_in, scalar_begun, begun_as, begun, added, HasData, HasNoData};
 ghost use Rattle.nix_data.specs.Scalars.{scalar_of, key_of};
-ghost use Rattle.nix_data.specs.Misread.{is_misread, IsReadAlike};
+ghost use Rattle.nix_data.specs.Misread.{is_misread_at, IsReadAlike};
 ghost use Rattle.nix_data.specs.Written.{IsData, IsNoData};
 ghost use Rattle.nix_data.specs.Refusals.{Refuses, ReadsUnless};
 
@@ -19,7 +20,7 @@ use crate::scalars::{Stop, evaluated, key, no_data, scalar};
 use crate::values::{Entry, Frame, Name, Target, Values};
 use nix_values::{Data, Value};
 use rnix::ast::{AstNode, Attr, AttrSet, Attrpath, AttrpathValue, Inherit};
-use rnix::{NodeOrToken, Root, SyntaxKind, SyntaxNode, SyntaxToken, TextRange};
+use rnix::{NodeOrToken, Root, SyntaxKind, SyntaxNode, TextRange};
 use std::alloc::{AllocError, Global};
 
 // The largest number of levels of nodes that are read. The parser accepts fewer: a list or a set is at most two levels below the one around it.
@@ -32,28 +33,27 @@ struct Reader {
     is_lossy: bool,
 }
 
-// Refuses a token that Nix reads differently.
-fn check(token: &SyntaxToken<'_>) -> Result<(), Stop>
-    ensures alike { OnOk result (is_misread (item_of token.now).kind (text_at token.now) ≡ false) }
-    ensures refused { Refuses result (is_misread (item_of token.now).kind (text_at token.now) ≡ true) }
+// Returns why Nix reads the first token that it reads differently in that way, if there is one.
+fn first_misread(root: &SyntaxNode<'_>) -> Option<NoData>
+    ensures { is_some result ≡ list_any is_misread_at (elements_of root.now) }
 {
-    match misread(token) {
-        None => Ok(()),
-        Some(reason) => Err(Stop::NoData(reason)),
-    }
-}
-
-// Refuses a token inside a node that Nix reads differently.
-fn check_tokens(node: &SyntaxNode<'_>) -> Result<(), Stop>
-    ensures alike { OnOk result (IsReadAlike node.now) }
-    ensures refused { Refuses result (IsReadAlike node.now → ⊥) }
-{
-    for element in node.descendants_with_tokens() {
+    for element in root.descendants_with_tokens() {
         if let NodeOrToken::Token(token) = element {
-            check(&token)?;
+            if let Some(found) = misread(&token) {
+                return Some(found);
+            }
         }
     }
-    Ok(())
+    None
+}
+
+// Returns why a text with a token that Nix reads differently is refused: for this token, or for a part before it that is not data.
+fn first_stop(outcome: Result<(), Stop>, token: NoData) -> Stop {
+    match outcome {
+        Err(Stop::Memory) => Stop::Memory,
+        Err(Stop::NoData(part)) if part.range.start() <= token.range.start() => Stop::NoData(part),
+        _ => Stop::NoData(token),
+    }
 }
 
 impl Reader {
@@ -257,9 +257,8 @@ impl Reader {
         target: Target,
         node: &SyntaxNode<'_>,
     ) -> Result<Option<Target>, Stop>
-        ensures begun { ReadsUnless self.now.is_lossy result
+        ensures { ReadsUnless self.now.is_lossy result
             (begun (place_of target) node.now (values_read values.old)) (λ next. (option_map place_of next, values_read values.new)) }
-        ensures node { IfOk result (λ next. IfSome next (λ target. is_misread (item_of node.now).kind (text_at node.now) ≡ false)) }
     {
         match node.kind() {
             SyntaxKind::NODE_ROOT | SyntaxKind::NODE_PAREN => Ok(Some(target)),
@@ -286,25 +285,19 @@ impl Reader {
         target: Target,
         node: &SyntaxNode<'_>,
     ) -> Result<(), Stop>
-        ensures alike { OnOk result (IsReadAlike node.now) }
         ensures added { OnOk result (self.now.is_lossy ≡ false →
             added levels (place_of target) node.now (values_read values.old) ≡ Some (values_read values.new)) }
-        ensures refused { Refuses result (self.now.is_lossy ≡ false → IsReadAlike node.now →
+        ensures refused { Refuses result (self.now.is_lossy ≡ false →
             added levels (place_of target) node.now (values_read values.old) ≡ None) }
     {
         if levels == 0 {
             return Err(evaluated(node));
         }
         let Some(mut inside) = self.begin(values, target, node)? else {
-            return check_tokens(node);
+            return Ok(());
         };
-        for element in node.children_with_tokens() {
-            match element {
-                NodeOrToken::Token(token) => check(&token)?,
-                NodeOrToken::Node(child) => {
-                    self.read(values, levels - 1, inside.for_node(&child), &child)?
-                }
-            }
+        for child in node.children() {
+            self.read(values, levels - 1, inside.for_node(&child), &child)?;
         }
         Ok(())
     }
@@ -317,7 +310,12 @@ fn read(alloc: Global, root: &SyntaxNode<'_>, is_lossy: bool) -> Result<Data, St
     ensures refused { Refuses result (is_lossy ≡ false → HasNoData root.now) }
 {
     let mut values = Values::new(alloc);
-    Reader { alloc, is_lossy }.read(&mut values, LEVELS, Target::Outermost, root)?;
+    let outcome = Reader { alloc, is_lossy }.read(&mut values, LEVELS, Target::Outermost, root);
+    // One walk over all tokens is faster than one inside each value.
+    if let Some(token) = first_misread(root) {
+        return Err(first_stop(outcome, token));
+    }
+    outcome?;
     Ok(values.finish(alloc)?)
 }
 
