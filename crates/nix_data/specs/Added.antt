@@ -81,7 +81,7 @@ abbrev pub attribute_at : ℕ → ℕ → List ℕ → List Built → Option Pla
 attribute_at first number name values = if is_free first (attribute_of values number name) values then Some (attribute number name) else None
 
 -- where the value of an entry is added, if its path begins with this name and continues with these: each name but the last is that of a set in the one before.
--- Only the first name may be that of a closed set.
+-- The set of the first name must be open, those of the others need not be: they are in it.
 abbrev pub path_from : ℕ → ℕ → List ℕ → List Located → List Built → Option (Place × List Built)
 path_from first number name [] values = option_map (λ place. (place, values)) (attribute_at first number name values)
 path_from first number name (next ∷ attributes) values =
