@@ -2,7 +2,7 @@
 use Rattle.std.proofs.Common.{◌≡◌, List, [], ◌∷◌, ℕ, map, refl, codes}
 use Rattle.rnix_kinds.specs.declared.kinds.SyntaxKind.TheVariants as k
 use Rattle.rnix_green.specs.{Forest.{Forest, empty, leaf, node}, Tree.Tree}
-use Rattle.rnix_base.specs.{Escapes.values, Normal.{symbols, lines, least_indentation, part_text, with_texts, closed}, Value.{marked, ended, fed}}
+use Rattle.rnix_base.specs.{Escapes.values, Normal.{symbols, lines, least_indentation, part_text, with_texts, closed}, Value.{marked, ended, with_line_feeds}}
 use Rattle.nix_formatting.specs.WalkSteps.{steps_in}
 
 -- the tree of a string with these quotes and contents, and white space before it
@@ -27,7 +27,7 @@ moved = refl
 -- a string in `"` shows its contents as they are written
 quoted : map (λ s. s.shown) (steps_in (string_tree [] (codes "\"") (codes "\n  a")))
     ≡ ([], []) ∷ (codes "\n  a", codes "\n  a") ∷ (codes "\"", []) ∷ ([], []) ∷ (codes "\"", []) ∷ ([], []) ∷ ([], []) ∷ []
-unfolding values fed
+unfolding values with_line_feeds
 quoted = refl
 
 -- if spaces follow an escaped line feed, moving a string changes its value in Nix, though not its normalized parts

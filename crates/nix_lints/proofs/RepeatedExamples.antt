@@ -1,7 +1,7 @@
 -- Which names of small texts repeat an attribute, by computation.
 use Rattle.{std.proofs.Common.{◌≡◌, ℕ, ◌+◌, List, [], ◌∷◌, refl, codes}, rnix_green.specs.Forest.{Forest, empty, leaf}}
 use Rattle.{rnix_green.specs.{Forest.{node, join}, Range.Extent, Tree.Located}, nix_lints.specs.Repeated.{Repetition, repeated_in}}
-use Rattle.rnix_base.specs.{Escapes.values, Value.fed}
+use Rattle.rnix_base.specs.{Escapes.values, Value.with_line_feeds}
 use Rattle.rnix_kinds.specs.declared.kinds.SyntaxKind.TheVariants as k
 
 -- the repetitions of a text that is one expression
@@ -104,5 +104,5 @@ evaluated = refl
 quoted : repeated (set (entry a number (entry (node k.NODE_STRING (leaf k.TOKEN_STRING_START (codes "\"") (leaf k.TOKEN_STRING_CONTENT (codes "a")
     (leaf k.TOKEN_STRING_END (codes "\"") empty))) empty) number empty)))
     ≡ (record { start = 5; end = 8 }, record { start = 1; end = 2 }) ∷ []
-unfolding values fed
+unfolding values with_line_feeds
 quoted = refl

@@ -1,7 +1,7 @@
 -- What the names of small texts refer to, by computation.
 use Rattle.{std.proofs.Common.{◌≡◌, ℕ, List, [], ◌∷◌, map, Bool, true, false, Option, Some, None, refl, codes}, rnix_green.specs.Forest.{Forest, empty, leaf}}
 use Rattle.{rnix_green.specs.{Forest.{node, join}, Tree.Located}, nix_scopes.specs.Scopes.resolved_in}
-use Rattle.rnix_base.specs.{Escapes.values, Value.fed}
+use Rattle.rnix_base.specs.{Escapes.values, Value.with_line_feeds}
 use Rattle.rnix_kinds.specs.declared.kinds.SyntaxKind.TheVariants as k
 
 -- a root with these children
@@ -79,5 +79,5 @@ quoted_entry text value f = node k.NODE_ATTRPATH_VALUE
 escaped_name : referred (node k.NODE_LAMBDA (node k.NODE_IDENT_PARAM (ident 97 empty) (leaf k.TOKEN_COLON (codes ":")
     (let_in (quoted_entry (codes "\\a") number empty) (ident 97 empty)))) empty)
     ≡ Some 1 ∷ []
-unfolding values fed
+unfolding values with_line_feeds
 escaped_name = refl

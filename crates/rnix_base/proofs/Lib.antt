@@ -16,4 +16,4 @@ pub mod NextPartLemmas
 pub mod ValueRows
 pub mod LetterLemmas
 pub mod ValuePartLemmas
-pub mod FedLemmas
+pub mod LineFeedLemmas

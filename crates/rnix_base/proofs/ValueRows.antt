@@ -1,6 +1,6 @@
 -- The values of certain strings.
 use Rattle.{std.{proofs.Common.{◌≡◌, List, [], ◌∷◌, ◌++◌, refl, codes}, specs.Prelude.ℕ}, rnix_base.specs.declared.parts.InterpolPart.TheVariants.{Literal, Interpolation}}
-use Rattle.rnix_base.specs.{Escapes.values, Normal.{symbols, lines, least_indentation, part_text, with_texts}, Value.{marked, ended, fed, indented_value, quoted_value}}
+use Rattle.rnix_base.specs.{Escapes.values, Normal.{symbols, lines, least_indentation, part_text, with_texts}, Value.{marked, ended, with_line_feeds, indented_value, quoted_value}}
 
 -- an escaped line feed begins a line that loses blanks
 escaped_feed : indented_value {I = ℕ} (Literal (codes "\n  a''\\n   b\n") ∷ []) ≡ (Literal (codes "a\n b\n") ∷ [])
@@ -35,5 +35,5 @@ plain_lines = refl
 
 -- carriage returns in `"` are line feeds
 returns_fed : quoted_value {I = ℕ} (Literal (codes "a\r\nb\rc\\\r\nd\\r") ∷ []) ≡ (Literal (codes "a\nb\nc\r\nd\r") ∷ [])
-unfolding values fed
+unfolding values with_line_feeds
 returns_fed = refl

@@ -56,17 +56,17 @@ abbrev pub indented_value : {I : Type 0} → Parts I → Parts I
 indented_value parts = dedented (value_indentation (opened parts)) (map (with_text (unescaped true)) (ended (opened parts)))
 
 -- a text between `"` in which a carriage return, with a line feed after it or without, is a line feed; a byte that a backslash precedes stays
-unfoldable pub fed : Bool → List ℕ → List ℕ
-fed is_escaped [] = []
-fed true (b ∷ text) = b ∷ fed false text
-fed false (b ∷ text) =
+unfoldable pub with_line_feeds : Bool → List ℕ → List ℕ
+with_line_feeds is_escaped [] = []
+with_line_feeds true (b ∷ text) = b ∷ with_line_feeds false text
+with_line_feeds false (b ∷ text) =
     if b == 13
-    then (if slice_index text 0 == 10 then fed false text else 10 ∷ fed false text)
-    else b ∷ fed (b == 92) text
+    then (if slice_index text 0 == 10 then with_line_feeds false text else 10 ∷ with_line_feeds false text)
+    else b ∷ with_line_feeds (b == 92) text
 
 -- what is written of a character in front of a rest: a line feed for a carriage return, or nothing if one follows, unless the character is escaped
-abbrev pub fed_letter : ℕ → List ℕ → Bool → List ℕ
-fed_letter letter rest is_escaped =
+abbrev pub letter_with_line_feed : ℕ → List ℕ → Bool → List ℕ
+letter_with_line_feed letter rest is_escaped =
     if letter == 13 && not is_escaped then (if slice_index rest 0 == 10 then [] else 10 ∷ []) else encode_utf8 letter
 
 -- whether a text has a carriage return
@@ -75,7 +75,7 @@ has_return text = list_any (λ byte. byte == 13) text
 
 -- the value of a text between `"`
 abbrev pub quoted_text : List ℕ → List ℕ
-quoted_text text = unescaped false (fed false text)
+quoted_text text = unescaped false (with_line_feeds false text)
 
 -- the value of a string between `"`
 abbrev pub quoted_value : {I : Type 0} → Parts I → Parts I

@@ -4,7 +4,7 @@ ghost use Rattle.std.specs.Prelude.{◌≡◌, ◌<◌, ◌≤◌, ◌++◌, [],
 ghost use Rattle.rnix_base.specs.Normal.{with_text, borrowed, owned, trimmed};
 ghost use Rattle.rnix_base.specs.Indent.{indent_behind, indent_of, no_indent};
 ghost use Rattle.rnix_base.specs.Value.{escape_len, without_escapes, IsLetter, last_byte, without_last_line, indented_value};
-ghost use Rattle.rnix_base.specs.Value.{fed, fed_letter, has_return, quoted_text, quoted_value};
+ghost use Rattle.rnix_base.specs.Value.{with_line_feeds, letter_with_line_feed, has_return, quoted_text, quoted_value};
 
 use crate::escapes::unescape;
 use crate::indent::{Indent, trimmed_len, unindented, without_last_spaces};
@@ -145,8 +145,13 @@ pub fn indented_value<'t, I: Drop>(
 }
 
 // Appends a character that `rest` follows. An unescaped carriage return becomes a line feed, or is left out if a line feed follows.
-fn push_fed(made: &mut String, letter: char, rest: &str, is_escaped: bool) -> Result<(), AllocError>
-    ensures { OnOk result (string_bytes made.new ≡ string_bytes made.old ++ fed_letter letter rest.now is_escaped) }
+fn push_with_line_feed(
+    made: &mut String,
+    letter: char,
+    rest: &str,
+    is_escaped: bool,
+) -> Result<(), AllocError>
+    ensures { OnOk result (string_bytes made.new ≡ string_bytes made.old ++ letter_with_line_feed letter rest.now is_escaped) }
 {
     if letter != '\r' || is_escaped {
         made.push(letter)?;
@@ -164,14 +169,14 @@ fn is_escape(letter: char, is_escaped: bool) -> bool
 }
 
 // Returns a text between `"` in which each carriage return, with a line feed after it or without one, becomes one line feed, unless it is escaped.
-fn fed(alloc: Global, text: &str) -> Result<String, AllocError>
-    ensures { IfOk result (λ made. string_bytes made ≡ fed false text.now) }
+fn with_line_feeds(alloc: Global, text: &str) -> Result<String, AllocError>
+    ensures { IfOk result (λ made. string_bytes made ≡ with_line_feeds false text.now) }
 {
     let mut made = String::new(alloc);
     let mut is_escaped = false;
     let mut letters = text.chars();
     while let Some(letter) = letters.next() {
-        push_fed(&mut made, letter, letters.as_str(), is_escaped)?;
+        push_with_line_feed(&mut made, letter, letters.as_str(), is_escaped)?;
         is_escaped = is_escape(letter, is_escaped);
     }
     Ok(made)
@@ -189,7 +194,7 @@ fn quoted_text(alloc: Global, text: &str) -> Result<String, AllocError>
     ensures { IfOk result (λ value. string_bytes value ≡ quoted_text text.now) }
 {
     if has_return(text) {
-        let text = fed(alloc, text)?;
+        let text = with_line_feeds(alloc, text)?;
         unescape(alloc, text.as_str(), false)
     } else {
         unescape(alloc, text, false)

@@ -88,7 +88,7 @@ shown_passed before other_before result a b a_remaining b_remaining passes =
     let front = map shown_of h.passed in
     let first : map shown_of a ≡ front ++ map shown_of a_remaining = ap (map shown_of) h.first ∙ map-append shown_of h.passed a_remaining in
     let second : map shown_of b ≡ front ++ map shown_of b_remaining =
-    ap (map shown_of) h.second ∙ map-append shown_of h.twins b_remaining ∙ ap (λ shown. shown ++ map shown_of b_remaining) (sym h.alike) in
+    ap (map shown_of) h.second ∙ map-append shown_of h.other_passed b_remaining ∙ ap (λ shown. shown ++ map shown_of b_remaining) (sym h.alike) in
     record {
       there = λ rests. first ∙ ap (λ shown. front ++ shown) rests ∙ sym second;
       back = λ whole. append_cancel_left front (map shown_of a_remaining) (map shown_of b_remaining) (sym first ∙ whole ∙ second);

@@ -29,8 +29,8 @@ all_shown [] = refl
 all_shown (event ∷ events) = ap (λ steps. steps ++ steps_of events) (step_shown event) ∙ ap (λ steps. steps_shown (shown_of event) ++ steps) (all_shown events)
 
 -- events that show the same have the same steps
-same_steps : (passed twins : List Event) → map shown_of passed ≡ map shown_of twins → steps_of passed ≡ steps_of twins
-same_steps passed twins e = all_shown passed ∙ ap (flat_map steps_shown) e ∙ sym (all_shown twins)
+same_steps : (passed other_passed : List Event) → map shown_of passed ≡ map shown_of other_passed → steps_of passed ≡ steps_of other_passed
+same_steps passed other_passed e = all_shown passed ∙ ap (flat_map steps_shown) e ∙ sym (all_shown other_passed)
 
 -- two walks begin with equal steps, and these steps remain
 pub record RestDecides (a b a_remaining b_remaining : List Step) : Type 0 where
@@ -79,14 +79,15 @@ alike_goes_on a b a_remaining b_remaining first all h so_far = record {
 }
 
 -- walks that pass events that show the same continue after the same steps
-rest_decides : (passed twins a b a_remaining b_remaining : List Event) → map shown_of passed ≡ map shown_of twins → a ≡ passed ++ a_remaining
-    → b ≡ twins ++ b_remaining
+rest_decides : (passed other_passed a b a_remaining b_remaining : List Event) → map shown_of passed ≡ map shown_of other_passed → a ≡ passed ++ a_remaining
+    → b ≡ other_passed ++ b_remaining
     → RestDecides (steps_of a) (steps_of b) (steps_of a_remaining) (steps_of b_remaining)
-rest_decides passed twins a b a_remaining b_remaining e first second = record {
+rest_decides passed other_passed a b a_remaining b_remaining e first second = record {
   front = steps_of passed;
   first = ap steps_of first ∙ flat_map-append step_at passed a_remaining;
   second =
-      ap steps_of second ∙ flat_map-append step_at twins b_remaining ∙ ap (λ steps. steps ++ steps_of b_remaining) (sym (same_steps passed twins e));
+      ap steps_of second ∙ flat_map-append step_at other_passed b_remaining
+      ∙ ap (λ steps. steps ++ steps_of b_remaining) (sym (same_steps passed other_passed e));
 }
 
 -- an element starts before it ends
@@ -134,7 +135,7 @@ passed_before target (event ∷ passed) rest all =
 pub none_passed : (before other_before : ℕ) (a b : List Event) → ArePassed before other_before a b a b
 none_passed before other_before a b = record {
   passed = [];
-  twins = [];
+  other_passed = [];
   first = refl;
   second = refl;
   alike = refl;
@@ -154,7 +155,7 @@ as_passed before other_before (Some false) a b a_remaining b_remaining h =
     (subst (ArePassed before other_before a b a) (sym h.3) (none_passed before other_before a b))
 as_passed before other_before (Some true) a b a_remaining b_remaining h = record {
   passed = h.passed;
-  twins = h.twins;
+  other_passed = h.other_passed;
   first = h.first;
   second = h.second;
   alike = h.alike;
@@ -166,7 +167,7 @@ as_passed before other_before (Some true) a b a_remaining b_remaining h = record
 module _ (before other_before : ℕ) (a b a_remaining b_remaining : List Event) (h : ArePassed before other_before a b a_remaining b_remaining) where
   -- the passed steps are equal
   pub passed_alike : RestDecides (steps_of a) (steps_of b) (steps_of a_remaining) (steps_of b_remaining)
-  passed_alike = rest_decides h.passed h.twins a b a_remaining b_remaining h.alike h.first h.second
+  passed_alike = rest_decides h.passed h.other_passed a b a_remaining b_remaining h.alike h.first h.second
 
   -- the steps before nodes that start at the offsets
   before_first : (target : NodeRange) → before ≡ target.start
@@ -175,9 +176,9 @@ module _ (before other_before : ℕ) (a b a_remaining b_remaining : List Event) 
   before_first target e = passed_before target h.passed a_remaining (subst (λ n. All (EndsBefore n) h.passed) e h.ends)
 
   before_second : (target : NodeRange) → other_before ≡ target.start
-      → (events_before target (h.twins ++ b_remaining) ≡ h.twins ++ events_before target b_remaining)
-      × (events_inside target (h.twins ++ b_remaining) ≡ events_inside target b_remaining)
-  before_second target e = passed_before target h.twins b_remaining (subst (λ n. All (EndsBefore n) h.twins) e h.other_ends)
+      → (events_before target (h.other_passed ++ b_remaining) ≡ h.other_passed ++ events_before target b_remaining)
+      × (events_inside target (h.other_passed ++ b_remaining) ≡ events_inside target b_remaining)
+  before_second target e = passed_before target h.other_passed b_remaining (subst (λ n. All (EndsBefore n) h.other_passed) e h.other_ends)
 
   -- the events inside such a node are among the remaining ones
   pub inside_first : (target : NodeRange) → before ≡ target.start → events_inside target a_remaining ≡ events_inside target a
@@ -190,7 +191,7 @@ module _ (before other_before : ℕ) (a b a_remaining b_remaining : List Event) 
   pub alike_before : (target : NodeRange) → before ≡ target.start
       → RestDecides (steps_of (events_before target a)) (steps_of b) (steps_of (events_before target a_remaining)) (steps_of b_remaining)
   alike_before target e =
-      rest_decides h.passed h.twins (events_before target a) b (events_before target a_remaining) b_remaining h.alike
+      rest_decides h.passed h.other_passed (events_before target a) b (events_before target a_remaining) b_remaining h.alike
       (ap (events_before target) h.first ∙ (before_first target e).0) h.second
 
   -- the steps of both walks up to their nodes
@@ -198,5 +199,5 @@ module _ (before other_before : ℕ) (a b a_remaining b_remaining : List Event) 
       → RestDecides (steps_of (events_before target a)) (steps_of (events_before other b)) (steps_of (events_before target a_remaining))
       (steps_of (events_before other b_remaining))
   both_before target other e f =
-      rest_decides h.passed h.twins (events_before target a) (events_before other b) (events_before target a_remaining) (events_before other b_remaining)
+      rest_decides h.passed h.other_passed (events_before target a) (events_before other b) (events_before target a_remaining) (events_before other b_remaining)
       h.alike (ap (events_before target) h.first ∙ (before_first target e).0) (ap (events_before other) h.second ∙ (before_second other f).0)

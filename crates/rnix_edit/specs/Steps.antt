@@ -138,9 +138,9 @@ pub record AreTaken (taken : Bool) (first all remaining : List Step) : Type 0 wh
 -- both walks have passed events that show the same, if any, of elements that end before the two offsets
 pub record ArePassed (before other_before : ℕ) (a b a_remaining b_remaining : List Event) : Type 0 where
   pub passed : List Event
-  pub twins : List Event
+  pub other_passed : List Event
   pub first : a ≡ passed ++ a_remaining
-  pub second : b ≡ twins ++ b_remaining
-  pub alike : map shown_of passed ≡ map shown_of twins
+  pub second : b ≡ other_passed ++ b_remaining
+  pub alike : map shown_of passed ≡ map shown_of other_passed
   pub ends : All (EndsBefore before) passed
-  pub other_ends : All (EndsBefore other_before) twins
+  pub other_ends : All (EndsBefore other_before) other_passed

@@ -52,4 +52,4 @@ bracket_ends =
     (All-cons (EndsBefore 2) (event_at cd (false, 1)) [] low (All-nil (EndsBefore 2)))
 
 begins_with_the_bracket : BeginsAlike (siblings_before 3 0 (events_remaining ab 0 (Enter 1))) 2 (events_remaining cd 0 (Enter 1))
-begins_with_the_bracket = record { twins = bracket; remaining = events_remaining cd 0 (Enter 2); split = refl; alike = refl; before = bracket_ends }
+begins_with_the_bracket = record { other_passed = bracket; remaining = events_remaining cd 0 (Enter 2); split = refl; alike = refl; before = bracket_ends }

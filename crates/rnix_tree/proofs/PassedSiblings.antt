@@ -121,7 +121,7 @@ some_steps n (node k c f) l = omega arith
 shown_first : (f : Forest) (passed : List Event) (before : ℕ) (b : List Event) (h : BeginsAlike passed before b) → map shown_of passed ≡ shown_from f
     → map shown_of b ≡ shown_from f ++ map shown_of h.remaining
 shown_first f passed before b h shown =
-    ap (map shown_of) h.split ∙ map-append shown_of h.twins h.remaining ∙ ap (λ x. x ++ map shown_of h.remaining) (sym h.alike ∙ shown)
+    ap (map shown_of) h.split ∙ map-append shown_of h.other_passed h.remaining ∙ ap (λ x. x ++ map shown_of h.remaining) (sym h.alike ∙ shown)
 
 module _ (t : Tree) (root : ℕ) (siblings : SiblingRange) (r : SiblingForest t root siblings) (there : root < length (items_of t)) (n offset : ℕ)
     (reached : IsReached t siblings.end offset siblings.first n) (late : n < siblings.end → offset ≤ (item t n).end) where
@@ -184,7 +184,7 @@ module _ (t : Tree) (root : ℕ) (siblings : SiblingRange) (r : SiblingForest t 
           let other_is = first_trees u other.first o.start o.parent f x.rest (subst (IsForest u other.first o.start o.parent) x.is o.is) in
           record {
             passed = map (event_at t) (steps_from siblings.first f);
-            twins = map (event_at u) (steps_from other.first f);
+            other_passed = map (event_at u) (steps_from other.first f);
             first = done.split;
             second = trees_passed u other_root other o other_there f x.rest (other.first + (n - siblings.first)) x.is (omega (arith, done.reached.counted));
             siblings = sym done.passed;
@@ -207,12 +207,12 @@ module _ (t : Tree) (root : ℕ) (siblings : SiblingRange) (r : SiblingForest t 
           let x = begins_with f o.forest (map shown_of h.remaining) _ (stops_after u other_root other o other_there)
           (sym (shown_first f _ before b h shown) ∙ whole) in
           let other_is = first_trees u other.first o.start o.parent f x.rest (subst (IsForest u other.first o.start o.parent) x.is o.is) in
-          let twins = map (event_at u) (steps_from other.first f) in
+          let other_passed = map (event_at u) (steps_from other.first f) in
           let split = trees_passed u other_root other o other_there f x.rest (other.first + (n - siblings.first)) x.is (omega (arith, done.reached.counted)) in
-          let same : map shown_of h.twins ≡ map shown_of twins = sym h.alike ∙ shown ∙ sym (shows u other.first o.start o.parent f other_is) in
-          let is_twins = same_front h.twins twins h.remaining _ (mapped_front shown_of h.twins twins same) (sym h.split ∙ split) in
+          let same : map shown_of h.other_passed ≡ map shown_of other_passed = sym h.alike ∙ shown ∙ sym (shows u other.first o.start o.parent f other_is) in
+          let is_other = same_front h.other_passed other_passed h.remaining _ (mapped_front shown_of h.other_passed other_passed same) (sym h.split ∙ split) in
           begins_so t root siblings r f done.reached.rest n done.reached.both done.reached.counted u other_root other o before
           (record {
             begins = x;
-            ends = ends_before u other.first o.start o.parent f before other_is some_elements (subst (All (EndsBefore before)) is_twins.0 h.before);
+            ends = ends_before u other.first o.start o.parent f before other_is some_elements (subst (All (EndsBefore before)) is_other.0 h.before);
           })

@@ -35,24 +35,24 @@ siblings_before offset (suc d) ((false, e) ∷ es) = (false, e) ∷ siblings_bef
 
 -- a walk begins with events that show the same as others, of elements that end before an offset
 pub record BeginsAlike (passed : List Event) (offset : ℕ) (b : List Event) : Type 0 where
-  pub twins : List Event
+  pub other_passed : List Event
   pub remaining : List Event
-  pub split : b ≡ twins ++ remaining
-  pub alike : map shown_of passed ≡ map shown_of twins
-  pub before : All (EndsBefore offset) twins
+  pub split : b ≡ other_passed ++ remaining
+  pub alike : map shown_of passed ≡ map shown_of other_passed
+  pub before : All (EndsBefore offset) other_passed
 
 -- two walks have passed events that show the same: the first one the siblings that it enters next and that end before an offset, and no such siblings are
 -- next; the second one elements that end before another offset
 pub record HavePassed (offset other_offset : ℕ) (a b a_remaining b_remaining : List Event) : Type 0 where
   pub passed : List Event
-  pub twins : List Event
+  pub other_passed : List Event
   pub first : a ≡ passed ++ a_remaining
-  pub second : b ≡ twins ++ b_remaining
+  pub second : b ≡ other_passed ++ b_remaining
   pub siblings : passed ≡ siblings_before offset 0 a
   pub some : 0 < length passed
-  pub alike : map shown_of passed ≡ map shown_of twins
+  pub alike : map shown_of passed ≡ map shown_of other_passed
   pub before : All (EndsBefore offset) passed
-  pub other_before : All (EndsBefore other_offset) twins
+  pub other_before : All (EndsBefore other_offset) other_passed
   pub done : siblings_before offset 0 a_remaining ≡ []
 
 -- the siblings that a walk enters next and that end before an offset are compared with the next ones of another walk: there are none; or they

@@ -1,5 +1,5 @@
 use Rattle.std.{proofs.Common.{◌≡◌, sym, subst, false, string_bytes}, specs.Prelude.IfOk}
-use Rattle.{rnix_base.specs.Escapes.unescaped, rnix_base.proofs.FedLemmas.no_returns}
+use Rattle.{rnix_base.specs.Escapes.unescaped, rnix_base.proofs.LineFeedLemmas.no_returns}
 use Rattle.rnix_base.proofs.value.quoted_text.Goals as goal
 
 pub returns-else-has_return : goal.returns-else-has_return
