@@ -5,7 +5,7 @@ use Rattle.std.specs.{Prelude.{◌||◌, IfSome, option_map, if◌then◌else◌
 use Rattle.rnix_green.specs.Tree.{Located, item_of, text_at}
 use Rattle.rnix_base.specs.{Escapes.{first_piece, unescaped}, Normal.with_text, Parts.is_indented, Value.{indented_value, quoted_value, quoted_text}}
 use Rattle.rnix_base.specs.declared.parts.InterpolPart.{InterpolPart, TheVariants.{Literal, Interpolation}}
-use Rattle.rnix_base.proofs.{EscapeLemmas.{unescaped-nil, unescaped_step}, FedLemmas.no_returns}
+use Rattle.rnix_base.proofs.{EscapeLemmas.{unescaped-nil, unescaped_step}, LineFeedLemmas.no_returns}
 use Rattle.rnix.specs.{AttrName.{name_by, static_name}, StringParts.{string_parts, plain_value, only_text}}
 use Rattle.nix_scopes.specs.Names.{may_differ, plain_content, quoted_content}
 use Rattle.rnix_kinds.specs.declared.kinds.SyntaxKind.TheVariants as k
