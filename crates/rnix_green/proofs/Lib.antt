@@ -19,3 +19,4 @@ pub mod FirstFromLemmas
 pub mod ContextLemmas
 pub mod SplicedForests
 pub mod SpliceLemmas
+pub mod OverwrittenNodes

@@ -1,11 +1,11 @@
 -- The elements of a tree in which another node replaces a node, made of the elements of both trees.
-use Rattle.std.specs.Prelude.{ℕ, suc, ◌+◌, ◌-◌, nat_lt, if◌then◌else◌, List, [], ◌∷◌, ◌++◌, length, map, take, drop}
+use Rattle.std.specs.Prelude.{◌≡◌, ℕ, suc, ◌+◌, ◌-◌, nat_lt, if◌then◌else◌, List, [], ◌∷◌, ◌++◌, length, map, take, drop}
 use Rattle.rnix_kinds.specs.declared.kinds.SyntaxKind.{SyntaxKind}
 use Rattle.rnix_green.specs.declared.packed.Packed.{Packed}
 use Rattle.rnix_green.specs.declared.packed.Shift.{Shift}
-use Rattle.rnix_green.specs.Packed.{packed, len_or_start_in, parent_in, size_in}
+use Rattle.rnix_green.specs.Packed.{word_of, packed, len_or_start_in, parent_in, size_in}
 use Rattle.rnix_green.specs.Tree.{Item}
-use Rattle.rnix_green.specs.Kept.{parent_or_root}
+use Rattle.rnix_green.specs.Kept.{parent_or_root, kept_of}
 
 -- an element of a number with more or fewer elements inside
 abbrev pub with_size : ℕ → ℕ → Packed → Packed
@@ -43,3 +43,13 @@ spliced es n i k inside len =
     ++ (packed k i.start (parent_or_root i.parent) (suc (length inside))
     ∷ (map (shifted (shift_inside n i.start)) inside
     ++ map (shifted (shift_behind n i (suc (length inside)) len)) (drop (n + suc i.below) es)))
+
+-- the elements are the stored ones of some items
+pub record AreStored (es : List Packed) : Type 0 where
+  pub items : List Item
+  pub are : es ≡ map kept_of items
+
+-- an element at another offset: what starts at `start` then starts at `new_start`
+abbrev pub restarted : ℕ → ℕ → Packed → Packed
+restarted start new_start e =
+    record { len_or_start = word_of (len_or_start_in e + new_start - start); parent = e.parent; size = e.size; kind = e.kind }

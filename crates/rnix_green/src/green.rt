@@ -1,4 +1,4 @@
-//! Immutable trees: a list of elements in preorder, and one text.
+//! Trees: a list of elements in preorder, and one text.
 
 ghost use Rattle.std.specs.Bool.{Decides};
 ghost use Rattle.std.specs.Prelude.{◌≡◌};
@@ -21,11 +21,11 @@ pub struct Element {
     pub below: usize,
 }
 
-/// An immutable tree, which nodes and tokens borrow.
+/// A tree, which nodes and tokens borrow. Only `set_node` changes it.
 #[derive(Drop)]
 pub struct GreenNode {
-    elements: Vec<Packed>,
-    text: String,
+    pub(crate) elements: Vec<Packed>,
+    pub(crate) text: String,
 }
 
 impl Model for GreenNode {

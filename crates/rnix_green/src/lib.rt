@@ -1,10 +1,11 @@
-//! Syntax trees as data: a builder, and the immutable tree that it makes.
+//! Syntax trees as data: a builder, and the tree that it makes.
 #![tactic(auto)]
 
 mod builder;
 mod elements;
 mod entries;
 mod green;
+mod in_place;
 mod packed;
 mod postorder;
 mod range;

@@ -4,7 +4,7 @@ ghost use Rattle.std.specs.Prelude.{◌≡◌, ◌+◌, ◌<◌, ◌≤◌, nat_
 ghost use Rattle.rnix_green.specs.Equality.{same_kind};
 ghost use Rattle.rnix_green.specs.SameElements.{same_numbers};
 ghost use Rattle.rnix_green.specs.Packed.{limit, word_of, packed, len_or_start_in, parent_in, size_in};
-ghost use Rattle.rnix_green.specs.SplicedElements.{with_size, shifted};
+ghost use Rattle.rnix_green.specs.SplicedElements.{with_size, shifted, restarted};
 
 use rnix_kinds::SyntaxKind;
 use std::alloc::AllocError;
@@ -126,6 +126,20 @@ impl Packed {
             parent + shift.new_number - shift.number
         };
         Packed::new(self.kind, start, parent, self.size as usize)
+    }
+
+    /// Returns a placed element at another offset: what starts at `start` then starts at `new_start`.
+    pub(crate) fn restarted(&self, start: usize, new_start: usize) -> Packed
+        requires { new_start < limit }
+        ensures { result ≡ restarted start new_start self.now }
+    {
+        let moved = (self.len_or_start as usize + new_start).saturating_sub(start);
+        Packed {
+            len_or_start: word(moved),
+            parent: self.parent,
+            size: self.size,
+            kind: self.kind,
+        }
     }
 }
 

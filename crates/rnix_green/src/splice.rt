@@ -107,7 +107,10 @@ fn replaced(
 
 impl GreenNode {
     ghost use Rattle.rnix_green.specs.Relatives.{IsNodeIn};
-    ghost use Rattle.rnix_green.specs.Splice.{HasOnlyChild, IsSpliced};
+    ghost use Rattle.std.specs.Prelude.{OnOk};
+    ghost use Rattle.rnix_green.specs.Forest.{text_of};
+    ghost use Rattle.rnix_green.specs.Splice.{HasOnlyChild, IsSpliced, text_spliced};
+    ghost use Rattle.rnix_green.specs.Tree.{items_of, item, forest_of};
 
     /// Returns whether the root has one child, which is a node.
     pub fn has_only_child(&self) -> bool
@@ -120,6 +123,20 @@ impl GreenNode {
         child.is_node && 2 + child.below == self.element_count()
     }
 
+    /// Returns the text with another text in place of an element's.
+    pub(crate) fn text_with(&self, number: usize, text: &str) -> Result<String, AllocError>
+        requires { number < length (items_of self.now) }
+        ensures text { IfOk result (λ whole. string_bytes whole ≡ text_spliced self.now number text.now) }
+        ensures short { OnOk result (
+            length (text_of (forest_of self.now)) - ((item self.now number).end - (item self.now number).start) + length text.now < limit) }
+    {
+        let old = self.element(number);
+        let (_, whole) = self.parts();
+        room(whole.len() - (old.end - old.start), text.len())?;
+        let spliced = replaced(self.allocator(), whole, old.start, old.end, text)?;
+        Ok(spliced)
+    }
+
     /// Returns the tree with the only child of the other tree's root in place of the node with a number in preorder. The time is linear in the size of both
     /// trees. A text of 2^32 bytes, or that many elements, is refused as if memory had run out.
     pub fn with_node(&self, number: usize, other: &GreenNode) -> Result<GreenNode, AllocError>
@@ -129,13 +146,12 @@ impl GreenNode {
     {
         let old = self.element(number);
         let kind = other.element(1).kind;
-        let (elements, text) = self.parts();
+        let (elements, _) = self.parts();
         let (new, new_text) = other.parts();
         room(elements.len() - (old.below + 1), new.len() - 1)?;
-        room(text.len() - (old.end - old.start), new_text.len())?;
-        let alloc = self.allocator();
+        let text = self.text_with(number, new_text)?;
         let elements = spliced(
-            alloc,
+            self.allocator(),
             elements,
             number,
             &old,
@@ -143,7 +159,6 @@ impl GreenNode {
             &new[2..],
             new_text.len(),
         )?;
-        let text = replaced(alloc, text, old.start, old.end, new_text)?;
         Ok(GreenNode::from_parts(elements, text))
     }
 }
