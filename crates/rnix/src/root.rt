@@ -1,10 +1,12 @@
 //! The tree of a text, with its errors.
 
-ghost use Rattle.std.specs.Prelude.{◌≡◌, map, slice_get, [], Some, IfOk, IfErr};
+ghost use Rattle.std.specs.Prelude.{◌≡◌, map, slice_get, [], Some, IfOk, IfErr, OnOk, OnErr};
 ghost use Rattle.rnix_kinds.specs.Lexical.Tokens.{tokens_of};
 ghost use Rattle.rnix_kinds.specs.declared.kinds.SyntaxKind.TheVariants.{NODE_ROOT};
 ghost use Rattle.rnix_green.specs.Forest.{text_of};
-ghost use Rattle.rnix_green.specs.Tree.{forest_of};
+ghost use Rattle.rnix_green.specs.Relatives.{IsNodeIn};
+ghost use Rattle.rnix_green.specs.Splice.{HasOnlyChild, IsSpliced};
+ghost use Rattle.rnix_green.specs.Tree.{Tree, forest_of};
 ghost use Rattle.rnix_grammar.specs.Fault.{fault_of};
 ghost use Rattle.rnix_grammar.specs.Parsed.{IsParsed};
 ghost use Rattle.rnix.specs.ParseResult.{root_of};
@@ -81,6 +83,20 @@ impl Parse {
         ensures root { self.now.tree.kind ≡ NODE_ROOT }
     {
         &self.green
+    }
+
+    /// Puts the only child of the other tree's root in place of a node, like `set_node` of `GreenNode`. The errors stay as they are. The root may be replaced
+    /// only by a root.
+    pub fn set_node(&mut self, number: usize, other: &GreenNode) -> Result<(), AllocError>
+        requires there { IsNodeIn self.old.tree number }
+        requires single { HasOnlyChild other.now }
+        requires root { (tree : Tree) → IsSpliced self.old.tree number other.now tree → tree.kind ≡ NODE_ROOT }
+        ensures tree { OnOk result (IsSpliced self.old.tree number other.now self.new.tree) }
+        ensures faults { OnOk result (self.new.faults ≡ self.old.faults) }
+        ensures err { OnErr result (self.new ≡ self.old) }
+    {
+        self.green.set_node(number, other)?;
+        Ok(())
     }
 
     /// Returns the text.

@@ -10,4 +10,5 @@ pub mod SameBraces
 pub mod SplicedReadings
 pub mod OwnTexts
 pub mod EditedNodes
+pub mod NewNodes
 pub mod EditedExample

@@ -3,3 +3,4 @@ pub mod OwnBrackets
 pub mod TreeHeight
 pub mod ParsedText
 pub mod EditableRanges
+pub mod ReparsedNode

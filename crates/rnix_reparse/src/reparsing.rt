@@ -9,9 +9,10 @@ ghost use Rattle.rnix_grammar.specs.Parsed.{IsParsed};
 ghost use Rattle.rnix_reparse.specs.OwnBrackets.{IsBetween};
 ghost use Rattle.rnix_reparse.specs.EditedRange.{edited, IsRangeOf};
 ghost use Rattle.rnix_reparse.specs.ParsedText.{IsParsedText};
+ghost use Rattle.rnix_reparse.specs.ReparsedNode.{IsReparsedNode};
 
 use crate::brackets::has_brackets;
-use crate::replacing::with_new_node;
+use crate::replacing::reparsed_node;
 use crate::texts::edited_text;
 use rnix::{Parse, Root, TextRange};
 use rnix_green::GreenNode;
@@ -46,17 +47,23 @@ fn len_with(green: &GreenNode, number: usize, replacement: &str) -> usize
     (element.end - element.start).saturating_add(replacement.len())
 }
 
-// Returns the tree after an edit of a text without errors, if parsing one of the nodes around the range alone is enough. The smallest is tried first.
-fn reparse_node(
+/// The number of a node in a tree, and the parse of its new text alone.
+#[derive(Drop)]
+pub(crate) struct NewNode {
+    pub(crate) number: usize,
+    pub(crate) parse: Parse,
+}
+
+/// Returns a node around the range for which it is enough to parse it alone after an edit of a text without errors. The smallest is tried first.
+pub(crate) fn reparse_node(
     alloc: Global,
     green: &GreenNode,
     range: TextRange,
     replacement: &str,
-) -> Result<Option<GreenNode>, AllocError>
+) -> Result<Option<NewNode>, AllocError>
     requires parsed { IsParsed (tokens_of (text_of (forest_of green.now))) green.now [] }
     requires range { IsRangeOf (text_of (forest_of green.now)) (bounds_of range) }
-    ensures { IfOk result (λ found. IfSome found (λ tree.
-        IsParsed (tokens_of (edited (bounds_of range) replacement.now (text_of (forest_of green.now)))) tree [])) }
+    ensures { IfOk result (λ found. IfSome found (λ new. IsReparsedNode green.now new.number new.parse.tree (bounds_of range) replacement.now)) }
 {
     let mut left = green.text_at(0).len() / PART;
     let mut around = last_before(green, range.start());
@@ -67,9 +74,8 @@ fn reparse_node(
                 return Ok(None);
             }
             left -= len;
-            let found = with_new_node(alloc, green, number, range, replacement)?;
-            if found.is_some() {
-                return Ok(found);
+            if let Some(parse) = reparsed_node(alloc, green, number, range, replacement)? {
+                return Ok(Some(NewNode { number, parse }));
             }
         }
         around = green.element(number).parent;
@@ -95,7 +101,9 @@ pub fn reparse(
 {
     let whole = old.text();
     if old.errors().is_empty() {
-        if let Some(tree) = reparse_node(alloc, old.green(), range, replacement)? {
+        let green = old.green();
+        if let Some(new) = reparse_node(alloc, green, range, replacement)? {
+            let tree = green.with_node(new.number, new.parse.green())?;
             return Ok(Parse::without_errors(alloc, tree));
         }
     }

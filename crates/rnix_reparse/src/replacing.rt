@@ -1,4 +1,4 @@
-//! A new node in place of a node of a tree.
+//! The parse of a node's new text alone.
 
 ghost use Rattle.std.specs.Prelude.{[], IfOk, IfSome};
 ghost use Rattle.rnix_kinds.specs.Lexical.Tokens.{tokens_of};
@@ -7,30 +7,30 @@ ghost use Rattle.rnix_green.specs.Range.{bounds_of};
 ghost use Rattle.rnix_green.specs.Tree.{forest_of};
 ghost use Rattle.rnix_grammar.specs.Parsed.{IsParsed};
 ghost use Rattle.rnix_reparse.specs.OwnBrackets.{HasBrackets, IsBetween};
-ghost use Rattle.rnix_reparse.specs.EditedRange.{edited, IsRangeOf};
+ghost use Rattle.rnix_reparse.specs.EditedRange.{IsRangeOf};
+ghost use Rattle.rnix_reparse.specs.ReparsedNode.{IsReparsedNode};
 
 use crate::comparing::has_same_brackets;
 use crate::nesting::fits_at;
 use crate::texts::edited_text;
-use rnix::{Root, TextRange};
+use rnix::{Parse, Root, TextRange};
 use rnix_green::GreenNode;
 use std::alloc::{AllocError, Global};
 
-/// Returns the tree after an edit between the brackets of a node, if the node's new text alone is read without errors, as one node with these brackets that
-/// nests no deeper than may be there. Parses that text.
-pub(crate) fn with_new_node(
+/// Returns the parse of a node's new text after an edit between the node's brackets, if that text alone is read without errors, as one node with these
+/// brackets that nests no deeper than may be there.
+pub(crate) fn reparsed_node(
     alloc: Global,
     green: &GreenNode,
     number: usize,
     range: TextRange,
     replacement: &str,
-) -> Result<Option<GreenNode>, AllocError>
+) -> Result<Option<Parse>, AllocError>
     requires parsed { IsParsed (tokens_of (text_of (forest_of green.now))) green.now [] }
     requires range { IsRangeOf (text_of (forest_of green.now)) (bounds_of range) }
     requires brackets { HasBrackets green.now number }
     requires between { IsBetween green.now number (bounds_of range) }
-    ensures { IfOk result (λ found. IfSome found (λ tree.
-        IsParsed (tokens_of (edited (bounds_of range) replacement.now (text_of (forest_of green.now)))) tree [])) }
+    ensures { IfOk result (λ found. IfSome found (λ new. IsReparsedNode green.now number new.tree (bounds_of range) replacement.now)) }
 {
     // Nothing is computed here. The contract of the call says that the text is UTF-8.
     let _text = green.text_at(0);
@@ -47,6 +47,5 @@ pub(crate) fn with_new_node(
     if !fits_at(green, number, &new) {
         return Ok(None);
     }
-    let tree = green.with_node(number, new.green())?;
-    Ok(Some(tree))
+    Ok(Some(new))
 }

@@ -1,10 +1,10 @@
 //! Edits, and the parses after them.
 
-ghost use Rattle.std.specs.Prelude.{IfOk, IfSome};
+ghost use Rattle.std.specs.Prelude.{IfOk, IfSome, OnOk};
 ghost use Rattle.rnix_reparse.specs.ParsedText.{IsParsedText};
 
 use rnix::{Parse, Root, TextRange};
-use rnix_reparse::reparse;
+use rnix_reparse::{reparse, reparse_in_place};
 use std::alloc::{AllocError, Global};
 
 /// An edit of a text: what is before it, what it replaces, what it writes, and what follows.
@@ -46,6 +46,25 @@ pub fn after_edit(
     Ok(Some(parse))
 }
 
+/// Edits the bytes from `start` to `end` in place, if these are offsets of characters, and returns whether they are.
+pub fn edit_in_place(
+    alloc: Global,
+    parse: &mut Parse,
+    start: usize,
+    end: usize,
+    new: &str,
+) -> Result<bool, AllocError>
+    requires { IsParsedText parse.old }
+    ensures { OnOk result (IsParsedText parse.new) }
+{
+    let text = parse.text();
+    if end < start || !text.is_char_boundary(start) || !text.is_char_boundary(end) {
+        return Ok(false);
+    }
+    reparse_in_place(alloc, parse, TextRange::new(start, end), new)?;
+    Ok(true)
+}
+
 // Returns the errors as a text.
 fn errors_of(alloc: Global, parse: &Parse) -> Result<String, AllocError> {
     let mut all = String::new(alloc);
@@ -62,17 +81,18 @@ pub fn are_same(alloc: Global, parse: &Parse, other: &Parse) -> Result<bool, All
     Ok(parse.green().is_same(other.green()) && errors == other_errors)
 }
 
-/// Returns whether the parse after an edit is that of the new text.
+/// Returns whether the parse after an edit is that of the new text, and also if it is edited in place.
 pub fn is_parse_after(alloc: Global, edit: Edit<'_>) -> Result<bool, AllocError> {
     let (before, old, new, after) = edit;
     let text = joined(alloc, [before, old, after])?;
     let end = before.len().saturating_add(old.len());
     let whole = parsed(alloc, joined(alloc, [before, new, after])?.as_str())?;
-    let parse = parsed(alloc, text.as_str())?;
-    match after_edit(alloc, &parse, before.len(), end, new)? {
-        Some(parse) => are_same(alloc, &parse, &whole),
-        None => Ok(false),
-    }
+    let mut parse = parsed(alloc, text.as_str())?;
+    let Some(other) = after_edit(alloc, &parse, before.len(), end, new)? else {
+        return Ok(false);
+    };
+    let is_edited = edit_in_place(alloc, &mut parse, before.len(), end, new)?;
+    Ok(is_edited && are_same(alloc, &other, &whole)? && are_same(alloc, &parse, &whole)?)
 }
 
 // Returns a text with so many lines before it that it is a small part, as the value of the last entry of a set.

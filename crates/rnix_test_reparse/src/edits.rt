@@ -1,6 +1,8 @@
 //! Edits of texts: in each case what is before the edit, what it replaces, what it writes, and what follows.
 
-use crate::compared::{Edit, after_edit, are_same, is_parse_after, is_parse_after_both, parsed};
+use crate::compared::{
+    Edit, after_edit, are_same, edit_in_place, is_parse_after, is_parse_after_both, parsed,
+};
 use std::alloc::{AllocError, Global};
 use std::test::Fail;
 
@@ -27,6 +29,29 @@ fn an_edit_inside_a_node_gives_the_parse_of_the_new_text(rt: HostRuntime) -> Res
         ("''\n  x ", "y", "${z} ''$ é", "\n''"),
         ("[ # one\n  a ", "", "# two\n", "b ]"),
         ("f { a = \"", "", "é", "\"; } [ ]"),
+    ];
+    assert!(rt; first_wrong(rt.alloc(), &edits)?.is_none());
+    Ok(())
+}
+
+#[test]
+fn an_edit_with_as_many_elements_gives_the_parse_of_the_new_text(
+    rt: HostRuntime,
+) -> Result<(), Fail> {
+    let edits = [
+        ("f [ ", "a", "b", " (c) ] { d = \"e\"; } g"),
+        ("f [ ", "a", "long", " (c) ] { d = \"e\"; } g"),
+        ("f [ ", "name", "é", " (c) ] { d = \"e\"; } g"),
+        ("{ a = [ (", "b", "c + d", ") ]; e = [ f ]; }"),
+        ("{ a = ", "1", "\"\"", "; b = { c = 2; }; }"),
+        (
+            "f (rec /* a */ { b = ",
+            "cd",
+            "c",
+            "; }) (let { body = e; })",
+        ),
+        ("(", "a + b", "a", ") (c d)"),
+        ("[ ", " ", "  # e\n", "a ] (c d)"),
     ];
     assert!(rt; first_wrong(rt.alloc(), &edits)?.is_none());
     Ok(())
@@ -203,6 +228,28 @@ fn is_parse_after_two(
         return Ok(false);
     };
     are_same(alloc, &parse, &parsed(alloc, last)?)
+}
+
+// Returns whether two edits in place, one after the other, make the parse that of the last text.
+fn is_parse_in_place_after_two(
+    alloc: Global,
+    text: &str,
+    at: usize,
+    last: &str,
+) -> Result<bool, AllocError> {
+    let mut parse = parsed(alloc, text)?;
+    let is_edited = edit_in_place(alloc, &mut parse, at, at, "b")?
+        && edit_in_place(alloc, &mut parse, at, at, "a")?;
+    Ok(is_edited && are_same(alloc, &parse, &parsed(alloc, last)?)?)
+}
+
+#[test]
+fn edits_in_place_follow_one_another(rt: HostRuntime) -> Result<(), Fail> {
+    let alloc = rt.alloc();
+    assert!(rt; is_parse_in_place_after_two(alloc, "[ (x ) ]", 5, "[ (x ab) ]")?);
+    assert!(rt; is_parse_in_place_after_two(alloc, "[ (x) ] (y)", 4, "[ (xab) ] (y)")?);
+    assert!(rt; is_parse_in_place_after_two(alloc, "{ = [ ]; }", 2, "{ ab= [ ]; }")?);
+    Ok(())
 }
 
 #[test]
