@@ -12,7 +12,7 @@ use crate::results::add_parse;
 use crate::small_edits::SmallEdit;
 use crate::words::Words;
 use rnix::{Parse, Root};
-use rnix_reparse::{editable_range, parse_text, reparse};
+use rnix_reparse::{editable_range, parse_text, reparse, reparse_in_place};
 use std::alloc::{AllocError, Global};
 use std::io;
 
@@ -53,12 +53,13 @@ fn random_edit(text: &str, numbers: &mut Numbers) -> (usize, usize, &'static str
     }
 }
 
-// Counts an edit, and prints it if the parse after it is another than that of the new text.
+// Counts an edit, and prints it if one of the parses after it, the second by an edit in place, is another than that of the new text.
 fn count(
     rt: &HostRuntime,
     old: &Parse,
     edit: SmallEdit<'_>,
     new: &Parse,
+    in_place: &Parse,
     counts: &mut Counts,
 ) -> io::Result<()> {
     counts.edits = counts.edits.wrapping_add(1);
@@ -72,7 +73,7 @@ fn count(
         return Ok(());
     };
     let whole = Root::parse(rt.alloc(), text.as_str())?;
-    if !is_same(new, &whole) {
+    if !is_same(new, &whole) || !is_same(in_place, &whole) {
         counts.different = counts.different.wrapping_add(1);
         println!(rt;
             "{}..{} <{}> in <{}>",
@@ -100,7 +101,9 @@ fn parse_after(
         return Ok(last);
     };
     let made = reparse(rt.alloc(), &last, range, edit.new)?;
-    count(rt, &last, edit, &made, counts)?;
+    let mut in_place = last.try_clone()?;
+    reparse_in_place(rt.alloc(), &mut in_place, range, edit.new)?;
+    count(rt, &last, edit, &made, &in_place, counts)?;
     let is_kept = made.errors().is_empty() || numbers.below(12) == 0;
     if !is_kept {
         return Ok(last);

@@ -56,7 +56,7 @@ fn work(
         "awkward" => awkward::awkward(alloc, words, seed, size, digest),
         "anew" => anew::anew(alloc, words, seed, size, digest),
         "again" => again::again(alloc, words, seed, size, digest),
-        "press" => Ok(press::press(alloc, words, "x", seed, size, digest)?),
+        "press" => Ok(press::press_in_place(alloc, words, "x", seed, size, digest)?),
         "press-anew" => Ok(press_anew::press_anew(alloc, words, "x", seed, size, digest)?),
         "break" => Ok(press::press(alloc, words, "}", seed, size, digest)?),
         "break-anew" => Ok(press_anew::press_anew(alloc, words, "}", seed, size, digest)?),

@@ -1,6 +1,6 @@
 //! Single bytes typed into one text, after each of which it is parsed from the tree of the text before.
 
-ghost use Rattle.std.specs.Prelude.{IfOk};
+ghost use Rattle.std.specs.Prelude.{IfOk, OnOk};
 ghost use Rattle.rnix_reparse.specs.ParsedText.{IsParsedText};
 
 use crate::digest::Digest;
@@ -10,7 +10,7 @@ use crate::press_anew::{PINS, add_size, typed};
 use crate::small_edits::SmallEdit;
 use crate::words::Words;
 use rnix::Parse;
-use rnix_reparse::{editable_range, parse_text, reparse};
+use rnix_reparse::{editable_range, parse_text, reparse, reparse_in_place};
 use std::alloc::{AllocError, Global};
 
 // Returns the parse of a text after an edit, or the one before if the edit leaves errors.
@@ -34,7 +34,60 @@ fn parse_after(
     Ok(made)
 }
 
-/// Types a byte so many times, with the results of `press_anew`.
+// Removes bytes that were typed.
+fn remove(alloc: Global, parse: &mut Parse, start: usize, len: usize) -> Result<(), AllocError>
+    requires { IsParsedText parse.old }
+    ensures { OnOk result (IsParsedText parse.new) }
+{
+    let end = start.saturating_add(len);
+    let Some(range) = editable_range(parse.text(), start, end) else {
+        return Ok(());
+    };
+    reparse_in_place(alloc, parse, range, "")?;
+    Ok(())
+}
+
+// Types into a text, and removes what was typed if it leaves errors.
+fn type_in_place(
+    alloc: Global,
+    parse: &mut Parse,
+    edit: SmallEdit<'_>,
+    digest: &mut Digest,
+) -> Result<(), AllocError>
+    requires { IsParsedText parse.old }
+    ensures { OnOk result (IsParsedText parse.new) }
+{
+    let Some(range) = editable_range(parse.text(), edit.start, edit.end) else {
+        return Ok(());
+    };
+    reparse_in_place(alloc, parse, range, edit.new)?;
+    add_size(parse, digest);
+    if !parse.errors().is_empty() {
+        remove(alloc, parse, edit.start, edit.new.len())?;
+    }
+    Ok(())
+}
+
+/// Types a byte so many times, each in place, with the results of `press_anew`.
+pub fn press_in_place(
+    alloc: Global,
+    words: &Words,
+    byte: &str,
+    seed: u64,
+    count: usize,
+    digest: &mut Digest,
+) -> Result<(), AllocError> {
+    let seed = mixed(seed);
+    let mut numbers = Numbers::new(seed);
+    let mut parse = parse_text(alloc, pins(alloc, words, seed, PINS)?.as_str())?;
+    for _press in 0..count {
+        let edit = typed(parse.text(), byte, &mut numbers);
+        type_in_place(alloc, &mut parse, edit, digest)?;
+    }
+    Ok(())
+}
+
+/// Types a byte so many times, with the results of `press_anew`. The parse before each stays until the next.
 pub fn press(
     alloc: Global,
     words: &Words,
