@@ -15,7 +15,7 @@ pub record AreErrors (is_each : Bool) (root : Located) (faults : List Fault) (fo
   pub shown : is_each ≡ false → AreShown root faults found
   pub runs : is_each ≡ false → CoverRuns root faults found
 
--- the diagnostics of a tree: those of its errors, or if it has none, those of white space that Nix does not read and of attributes that are defined again
+-- the diagnostics of a tree: those of its errors, or if it has none, those of white space that Nix refuses and of attributes that are defined again
 pub record AreFound (is_each : Bool) (root : Located) (faults : List Fault) (found : List Diagnostic) : Type 0 where
   pub errors : ¬ (faults ≡ []) → AreErrors is_each root faults found
   pub lints : faults ≡ [] → map finding_of found ≡ findings_in root
@@ -33,7 +33,7 @@ AreFirstErrors is_each limit root faults found = (all : List Diagnostic) × AreE
 abbrev pub AreFirstFound : Bool → ℕ → Located → List Fault → FirstDiagnostics → Type 0
 AreFirstFound is_each limit root faults found = (all : List Diagnostic) × AreFound is_each root faults all × AreFirstUpTo limit all found
 
--- the diagnostics of a text, and their number, which is 0 exactly if the text has no errors and no white space that Nix does not read, and defines no attribute
+-- the diagnostics of a text, and their number, which is 0 exactly if the text has no errors and no white space that Nix refuses, and defines no attribute
 -- again
 pub record AreCounted (is_each : Bool) (text : List ℕ) (found : List Diagnostic) (count : ℕ) : Type 0 where
   pub tree : Tree

@@ -78,7 +78,7 @@ abbrev pub merged : List Finding → List Finding → List Finding
 merged [] others = others
 merged (own ∷ more) others = placed own (merged more) others
 
--- the findings of a text without errors: white space that Nix does not read, and attributes that are defined again
+-- the findings of a text without errors: white space that Nix refuses, and attributes that are defined again
 abbrev pub findings_in : Located → List Finding
 findings_in root = merged (map finding_in (foreign_in root)) (map finding_at (repeated_in root))
 

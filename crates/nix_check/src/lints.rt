@@ -31,7 +31,7 @@ fn space_message(alloc: Global, character: char) -> Result<String, AllocError>
     Ok(text)
 }
 
-// Returns a run of white space that Nix does not read as a diagnostic, which covers no syntax errors.
+// Returns the diagnostic of a run of white space that Nix refuses. It covers no syntax errors.
 fn space_diagnostic(alloc: Global, space: ForeignSpace) -> Result<Diagnostic, AllocError>
     ensures { IfOk result (λ d. finding_of d ≡ finding_of_space space) }
 {

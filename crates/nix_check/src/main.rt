@@ -1,4 +1,5 @@
-//! Reports the syntax errors of Nix files by rnix's grammar: `nix-check [OPTION..] [FILE..]`, by default of standard input.
+//! Reports syntax errors of Nix files by rnix's grammar and, in files without any, repeated attributes and white space that Nix refuses:
+//! `nix-check [OPTION..] [FILE..]`, by default of standard input.
 #![tactic(auto)]
 
 mod check;
@@ -31,7 +32,7 @@ nix-check [OPTION..] [FILE..]
 
 Prints the syntax errors of Nix files: the place, the line, what was expected there, and what may help. A mistake that leads to several errors
 is reported once, unless --all is given. In files without syntax errors, two things are errors because Nix refuses them: attributes that are
-defined again, and white space that Nix does not read, such as no-break spaces. A folder stands for all files in it and below that end with .nix;
+defined again, and white space that Nix refuses, such as no-break spaces. A folder stands for all files in it and below that end with .nix;
 - and no FILE mean standard input. The grammar is that of rnix 0.14, which differs from Nix's in a few places: see docs/nix.md.
 
     --all      print every error of a file: also those that follow from another, and more than the first 20

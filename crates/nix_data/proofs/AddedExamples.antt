@@ -120,7 +120,7 @@ inside_one_set : values_of (root (a_set (entry (one (codes "a")) (a_set (λ f. e
 unfolding added
 inside_one_set = refl
 
--- a tree of no text: two numbers at the root, where one has its place
+-- a tree that no text has: two numbers at the root, where only one has a place
 two_values : values_of (root (λ f. number (codes "1") (number (codes "2") f))) ≡ None
 unfolding added
 two_values = refl

@@ -39,7 +39,7 @@ unfolding added
 begun_none zero place e old none = refl
 begun_none (suc levels) place e old none = ap (option_and_then (inside_added (added levels) e)) none
 
--- nothing is read at no level
+-- if no levels are left, nothing is added
 pub added_at_zero : (levels : ℕ) (place : Place) (e : Located) (old : List Built) → levels ≡ 0 → added levels place e old ≡ None
 unfolding added
 added_at_zero levels place e old none = ap (λ l. added l place e old) none

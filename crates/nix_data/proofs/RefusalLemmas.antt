@@ -1,4 +1,4 @@
--- What results say, from what other results say.
+-- The contracts of results, from those of other results.
 use Rattle.std.proofs.Common.{◌≡◌, ◌∙◌, true, ap, sym, Option, Some, None}
 use Rattle.std.specs.Prelude.{Result, Ok, Err, IfOk, IsErrAnd}
 use Rattle.nix_data.specs.declared.scalars.Stop.{Stop}

@@ -28,7 +28,7 @@ meant levels found e node entries f rest is same none means =
     subst (λ o. IsSomeAnd o (λ e. Means levels 0 [] e entries)) is
     (subst (λ n. Means levels 0 [] n entries) same (subst (Means levels 0 [] node) (sym all) means.1))
 
--- a text is written Nix if it is parsed without errors, Nix reads its tokens alike, and its expression means these values
+-- a text is written Nix if it is parsed without errors, Nix reads its tokens as the parser does, and its expression means these values
 pub written : (text : List ℕ) (read : Reading) (root : Located) (entries : List Entry) → IsParsed (tokens_of text) read.tree read.faults →
     (read.faults ≡ []) × (root ≡ root_of read) → IsReadAlike root → IsMeant root entries → IsWritten text entries
 written text read root entries parsed fine alike means = record {
@@ -39,7 +39,7 @@ written text read root entries parsed fine alike means = record {
   is_meant = subst (λ r. IsMeant r entries) fine.1 means;
 }
 
--- a text has these data if it is parsed without errors, Nix reads its tokens alike, and its tree has them
+-- a text has these data if it is parsed without errors, Nix reads its tokens as the parser does, and its tree has them
 pub data_alike : (text : List ℕ) (read : Reading) (root : Located) (entries : List Entry) → IsParsed (tokens_of text) read.tree read.faults →
     (read.faults ≡ []) × (root ≡ root_of read) → IsReadAlike root → HasData root entries → IsData text entries
 data_alike text read root entries parsed fine alike has = record {

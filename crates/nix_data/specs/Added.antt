@@ -52,8 +52,8 @@ abbrev pub value_added : Place → Plain → List Built → Option (List Built)
 value_added nowhere plain values = None
 value_added place plain values = if is_some (present_at place values) then None else Some (with_value place plain values)
 
--- whether attributes can be added to a value: it is a set, and none of the first values. Where two sets have one name, Nix adds the attributes of the second to
--- the first, but does not merge sets inside them: a set of the first is closed to the text of the second.
+-- whether attributes can be added to a value: it is a set, and its number is not below `first`. Where two sets have one name, Nix adds the attributes of the
+-- second to the first, but does not merge sets inside them: a set of the first is closed to the text of the second.
 abbrev pub is_open : ℕ → ℕ → List Built → Bool
 is_open first number values = nat_le first number && is_set_at values number
 

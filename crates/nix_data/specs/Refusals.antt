@@ -8,11 +8,11 @@ abbrev pub is_refusal : Stop → Bool
 is_refusal Memory = false
 is_refusal (NoData reason) = true
 
--- if a part of the text is refused, this holds
+-- a refusal implies this
 abbrev pub Refuses : {T : Type 0} → Result T Stop → Type 0 → Type 0
 Refuses result refused = IfErr result (λ error. is_refusal error ≡ true → refused)
 
--- what is wanted was read, or there is nothing to read
+-- the result is the wanted value; a refusal implies that there is none
 abbrev pub Reads : {T U : Type 0} → Result T Stop → Option U → (T → U) → Type 0
 Reads result wanted view = MatchResult result (λ found. wanted ≡ Some (view found)) (λ error. is_refusal error ≡ true → wanted ≡ None)
 

@@ -32,7 +32,7 @@ pub record IsData (text : List ℕ) (entries : List Entry) : Type 0 where
   pub is_alike : IsReadAlike (root_of read)
   pub has_data : HasData (root_of read) entries
 
--- a text has errors, or its tree has no data that Nix reads alike
+-- a text has errors, its tree has no values, or Nix reads one of its tokens differently
 pub record IsNoData (text : List ℕ) : Type 0 where
   pub read : Reading
   pub is_read : IsParsed (tokens_of text) read.tree read.faults

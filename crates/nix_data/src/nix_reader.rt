@@ -33,7 +33,7 @@ struct Reader {
     is_lossy: bool,
 }
 
-// Returns why Nix reads the first token that it reads differently in that way, if there is one.
+// Returns the first token that Nix reads differently, with the reason, if there is one.
 fn first_misread(root: &SyntaxNode<'_>) -> Option<NoData>
     ensures { is_some result ≡ list_any is_misread_at (elements_of root.now) }
 {

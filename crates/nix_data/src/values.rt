@@ -84,7 +84,7 @@ impl Values {
     ghost use Rattle.nix_data.specs.Places.{place_of, values_read};
     ghost use Rattle.nix_data.specs.Refusals.{Reads, Refuses};
 
-    /// Returns no values.
+    /// Returns an empty list of values.
     pub fn new(alloc: Global) -> Values
         ensures { values_read result ≡ [] }
     {

@@ -1,4 +1,4 @@
--- Runs of white space that Nix does not read, one after another.
+-- Runs of white space that Nix refuses, one after another.
 use Rattle.std.proofs.Common.{◌≡◌, ◌∙◌, ℕ, ◌+◌, ◌<◌, Bool, false, List, ◌∷◌, ◌++◌, length, drop, get_or, sym, ap, arith}
 use Rattle.std.proofs.lemmas.{Bool.Decides.nat_tests, List.{append_assoc, drop_more}}
 use Rattle.std.proofs.lemmas.Str.{IsCharBoundary-after_ascii}

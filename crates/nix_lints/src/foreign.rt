@@ -51,7 +51,7 @@ fn run_at(start: usize, text: &str) -> ForeignSpace
     }
 }
 
-// Adds the run that begins at an index of a text, if one does, and returns whether the byte there is in a run. `is_inside` tells this of the byte before it.
+// Adds the run that begins at an index of a text, if one does, and returns whether the byte there is in a run. `is_inside` says whether the byte before it is.
 fn add_run(
     start: usize,
     text: &str,

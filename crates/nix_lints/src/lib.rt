@@ -1,4 +1,4 @@
-//! Findings on texts without syntax errors: attributes that are defined twice, and white space that Nix does not read.
+//! Findings on texts without syntax errors: attributes that are defined twice, and white space that Nix refuses.
 #![tactic(auto)]
 
 mod attributes;

@@ -43,8 +43,8 @@ Prints a Nix text in which the attribute of the dotted PATH is the string VALUE 
 PATH, names are written as in the text, quotes included: a and \"a\" are one name. - or no FILE means standard input.
 
 PATH begins at the set that the text is, or that is in brackets, in the body of a function, `let`, `with` or `assert`, in the argument of a
-call, or beside names and calls of `//`; each value on the step is looked through likewise. If the set has no such attribute, the value of a
-name of a `let` around it is set, with a line on standard error that says so.
+call, or beside names and calls of `//`; the value at each further name of PATH is searched in the same way. If the set has no such attribute,
+the value of a name of a `let` around it is set, with a line on standard error that says so.
 
     --raw      VALUE is a Nix expression, as 1, true, null or [ a ], and replaces any value
     --list     VALUE is a list of strings, separated by white space, and replaces any value

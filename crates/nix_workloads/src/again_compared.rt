@@ -36,7 +36,7 @@ fn is_same(one: &Parse, other: &Parse) -> bool {
     one.green().is_same(other.green()) && first.sum() == second.sum()
 }
 
-// Returns a random edit of a text: most remove up to eight bytes, most write a piece, some two.
+// Returns a random edit of a text. Of eight edits, three remove nothing, three one byte, and two up to 7 or 59; six of eight insert one or two pieces.
 fn random_edit(text: &str, numbers: &mut Numbers) -> (usize, usize, &'static str, &'static str) {
     let start = numbers.below(text.len().saturating_add(1));
     let removed = match numbers.below(8) {
@@ -53,7 +53,7 @@ fn random_edit(text: &str, numbers: &mut Numbers) -> (usize, usize, &'static str
     }
 }
 
-// Counts an edit, and prints it if one of the parses after it, the second by an edit in place, is another than that of the new text.
+// Counts an edit, and prints it if the result of `reparse` or of `reparse_in_place` differs from the parse of the new text.
 fn count(
     rt: &HostRuntime,
     old: &Parse,
@@ -86,7 +86,7 @@ fn count(
     Ok(())
 }
 
-// Returns the parse of a text after an edit, or the one before: of twelve edits that leave errors, eleven are taken back.
+// Returns the parse of a text after an edit, or the one before: of twelve edits that leave errors, eleven are undone.
 fn parse_after(
     rt: &HostRuntime,
     last: Parse,
@@ -145,7 +145,7 @@ fn text_of(
     }
 }
 
-/// Makes about so many edits, and prints how many parses after them are other ones than those of the new texts.
+/// Makes about `size` random edits, and prints how many results differ from a parse of the new text.
 pub fn compare(rt: &HostRuntime, words: &Words, seed: u64, size: usize) -> io::Result<()> {
     let mut numbers = Numbers::new(mixed(seed));
     let files = Files::new(rt.alloc())?;

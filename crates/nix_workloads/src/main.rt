@@ -1,6 +1,6 @@
-//! Does jobs that users of the library wait for, on texts that it makes itself: `nix_workloads JOB SEED SIZE` prints how many results the job had, and a
-//! digest of them all. `all` does the jobs of `JOBS`, and `compare` compares what `anew` and `again` call. A job calls the public functions of the
-//! libraries alone, and none that takes work twice on one text, or on one name or place of it.
+//! Does typical jobs of users on generated texts: `nix_workloads JOB SEED SIZE` prints the number of results and a digest of all of them. `all` does the
+//! jobs of `JOBS`; `compare` compares `reparse` and `reparse_in_place` with `Root::parse`. A job calls only public functions of the libraries, and makes
+//! no expensive call twice with the same text, name or offset.
 #![tactic(auto)]
 
 mod again;

@@ -68,7 +68,7 @@ fn type_in_place(
     Ok(())
 }
 
-/// Types a byte so many times, each in place, with the results of `press_anew`.
+/// Types a byte `count` times, each in place; the results are those of `press_anew`.
 pub fn press_in_place(
     alloc: Global,
     words: &Words,
@@ -87,7 +87,7 @@ pub fn press_in_place(
     Ok(())
 }
 
-/// Types a byte so many times, with the results of `press_anew`. The parse before each stays until the next.
+/// Types a byte `count` times; the results are those of `press_anew`. The parse before each stays until the next.
 pub fn press(
     alloc: Global,
     words: &Words,

@@ -37,7 +37,7 @@ pub fn add_size(read: &Parse, digest: &mut Digest) {
     digest.add_number(read.errors().len());
 }
 
-/// Types a byte so many times. One that leaves errors is taken back.
+/// Types a byte `count` times. One that leaves errors is undone.
 pub fn press_anew(
     alloc: Global,
     words: &Words,

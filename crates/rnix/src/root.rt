@@ -66,7 +66,7 @@ fn copies(alloc: Global, errors: &[ParseError]) -> Result<Vec<ParseError>, Alloc
 }
 
 impl Parse {
-    /// Returns the parse of a text that has no errors, by its tree.
+    /// Makes a parse without errors from a tree.
     pub fn without_errors(alloc: Global, green: GreenNode) -> Parse
         requires { green.kind ≡ NODE_ROOT }
         ensures { result ≡ record { tree = green; faults = [] } }

@@ -17,7 +17,7 @@ blanks_stay : indented_value {I = ℕ} (Literal (codes "\n        x''\\\n       
 unfolding values symbols lines least_indentation part_text with_texts marked ended
 blanks_stay = refl
 
--- an escaped blank is lost as a blank
+-- an escaped blank at the start of a line is removed like any other
 escaped_blank : indented_value {I = ℕ} (Literal (codes "\n  a''\\n''\\  b''\\ c") ∷ []) ≡ (Literal (codes "a\nb c") ∷ [])
 unfolding values symbols lines least_indentation part_text with_texts marked ended
 escaped_blank = refl

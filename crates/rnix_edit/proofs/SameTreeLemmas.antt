@@ -20,7 +20,7 @@ same_shown_decides a b =
     (Decides-and (beq a.is_node b.is_node) (same_kind a.kind b.kind && bytes_eq a.text b.text) (booleans_Decides a.is_node b.is_node)
     (Decides-and (same_kind a.kind b.kind) (bytes_eq a.text b.text) (same_kind-decides a.kind b.kind) (bytes_eq-Decides a.text b.text))))
 
--- an element after the end of a row is not a part of it
+-- an element after the end of a forest is not in it
 part_beyond : (m n : ℕ) (f : Forest) → n + element_count f ≤ m → part_of m n f ≡ empty
 part_beyond m n empty l = refl
 part_beyond m n (leaf k t f) l =
@@ -41,7 +41,7 @@ shows_part e = elim (cases_lt e.number (length (items_of e.tree))) [
       ap (λ f. map shown_of (map (event_at e.tree) (steps_from e.number f))) none ∙ sym (ap shown_from none)
 ]
 
--- a row without elements adds nothing
+-- joining an empty forest changes nothing
 none_joined : (f g : Forest) → element_count g ≡ 0 → join f g ≡ f
 none_joined empty empty e = refl
 none_joined empty (leaf k u g) e = absurd (omega (arith, e))
@@ -49,9 +49,9 @@ none_joined empty (node k c g) e = absurd (omega (arith, e))
 none_joined (leaf k u f) g e = ap (leaf k u) (none_joined f g e)
 none_joined (node k c f) g e = ap (node k c) (none_joined f g e)
 
--- what a walk over a row shows determines the row
-pub same_rows : (f g : Forest) → shown_from f ≡ shown_from g → f ≡ g
-same_rows f g e =
+-- what a walk shows of a forest determines it
+pub same_forests : (f g : Forest) → shown_from f ≡ shown_from g → f ≡ g
+same_forests f g e =
     let whole : shown_from f ++ [] ≡ shown_from g ++ [] = ap (λ shown. shown ++ []) e in
     let one = begins_with f g [] [] tt whole in
     let other = begins_with g f [] [] tt (sym whole) in
@@ -70,7 +70,7 @@ pub same_trees : (one other : Located) (a b : List Event) (same : Bool) → a �
     → Decides same (map shown_of a ≡ map shown_of b) → Decides same (part_at one ≡ part_at other)
 same_trees one other a b same first second tested =
     Decides-like same
-    (λ shown. same_rows (part_at one) (part_at other)
+    (λ shown. same_forests (part_at one) (part_at other)
     (sym (ap (map shown_of) first ∙ shows_part one) ∙ shown ∙ (ap (map shown_of) second ∙ shows_part other)))
     (λ parts. (ap (map shown_of) first ∙ shows_part one) ∙ ap shown_from parts ∙ sym (ap (map shown_of) second ∙ shows_part other))
     tested

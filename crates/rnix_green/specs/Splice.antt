@@ -11,13 +11,13 @@ pub record HasOnlyChild (t : Tree) : Type 0 where
   pub child : IsNodeIn t 1
   pub alone : 2 + (item t 1).below ≡ length (items_of t)
 
--- u is t with the only child of the root of o in place of the node of the number n
+-- u is t with the only child of o's root in place of node n
 abbrev pub IsSpliced : Tree → ℕ → Tree → Tree → Type 0
 IsSpliced t n o u =
     (x : Context) (k : SyntaxKind) (c : Forest) (j : SyntaxKind) (d : Forest) → forest_of t ≡ filled x k c → elements_before x ≡ n
     → o.children ≡ node j d empty
     → forest_of u ≡ filled x j d
 
--- the text of t with another text in place of that of the element of the number n
+-- the text of t with another text in place of that of element n
 abbrev pub text_spliced : Tree → ℕ → List ℕ → List ℕ
 text_spliced t n text = take (item t n).start (text_of (forest_of t)) ++ (text ++ drop (item t n).end (text_of (forest_of t)))

@@ -7,11 +7,11 @@ use Rattle.rnix_green.specs.Packed.{word_of, packed, len_or_start_in, parent_in,
 use Rattle.rnix_green.specs.Tree.{Item}
 use Rattle.rnix_green.specs.Kept.{parent_or_root, kept_of}
 
--- an element of a number with more or fewer elements inside
+-- an element with more or fewer elements inside
 abbrev pub with_size : ℕ → ℕ → Packed → Packed
 with_size old new e = packed e.kind (len_or_start_in e) (parent_in e) (size_in e + new - old)
 
--- the element of the number m, where the node of the number n has new elements in place of old ones
+-- element m, where node n has new elements in place of old ones
 abbrev pub resized_at : ℕ → ℕ → ℕ → ℕ → Packed → Packed
 resized_at m n old new e = if nat_lt n (m + size_in e) then with_size old new e else e
 
@@ -20,7 +20,7 @@ abbrev pub resized : ℕ → ℕ → ℕ → ℕ → List Packed → List Packed
 resized m n old new [] = []
 resized m n old new (e ∷ es) = resized_at m n old new e ∷ resized (m + 1) n old new es
 
--- the number of a parent, which changes only from that of the shift on
+-- the number of a parent after the shift: numbers below the shift's stay
 abbrev pub shifted_number : Shift → ℕ → ℕ
 shifted_number s p = if nat_lt p s.number then p else p + s.new_number - s.number
 
@@ -28,15 +28,15 @@ shifted_number s p = if nat_lt p s.number then p else p + s.new_number - s.numbe
 abbrev pub shifted : Shift → Packed → Packed
 shifted s e = packed e.kind (len_or_start_in e + s.new_start - s.start) (shifted_number s (parent_in e)) (size_in e)
 
--- the shift of what is inside the new node, which has the number 1 and starts at 0 until it is at the number n and the offset
+-- the shift of the elements inside the new node, from number 1 and offset 0 to number n and this offset
 abbrev pub shift_inside : ℕ → ℕ → Shift
 shift_inside n offset = record { start = 0; new_start = offset; number = 1; new_number = n }
 
--- the shift of what is behind the node
+-- the shift of the elements after the node
 abbrev pub shift_behind : ℕ → Item → ℕ → ℕ → Shift
 shift_behind n i count len = record { start = i.end; new_start = i.start + len; number = n + suc i.below; new_number = n + count }
 
--- the elements with a node of another kind in place of the node i of the number n, where what is inside it and the length of its text are given
+-- the elements with a node of another kind in place of node n, whose item is i, where what is inside it and the length of its text are given
 abbrev pub spliced : List Packed → ℕ → Item → SyntaxKind → List Packed → ℕ → List Packed
 spliced es n i k inside len =
     resized 0 n (suc i.below) (suc (length inside)) (take n es)

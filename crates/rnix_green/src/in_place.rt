@@ -34,7 +34,7 @@ fn move_starts(elements: &mut [Packed], from: usize, start: usize, new_start: us
     }
 }
 
-// Writes a node over the old one of a number, which has as many elements.
+// Writes a node over the old one with this number, which has as many elements.
 fn write_node(
     elements: &mut [Packed],
     number: usize,
@@ -60,7 +60,7 @@ fn write_node(
     write_shifted(elements, number + 1, inside, &place);
 }
 
-// Puts a node in place of the old one of a number, which has as many elements. The new node's text has `len` bytes.
+// Puts a node in place of the old one with this number, which has as many elements. The new node's text has `len` bytes.
 fn set_elements(
     elements: &mut [Packed],
     number: usize,

@@ -90,7 +90,7 @@ impl Packed {
         self.size as usize
     }
 
-    /// Returns whether the element of a number holds one with a later number.
+    /// Returns whether the element with this number contains the one with a later number.
     pub(crate) fn holds(&self, number: usize, later: usize) -> bool
         requires { number < limit }
         ensures { result ≡ nat_lt later (number + size_in self.now) }

@@ -45,7 +45,7 @@ fn push_shifted(elements: &mut Vec<Packed>, moved: &[Packed], shift: &Shift)
     }
 }
 
-// Returns the elements with a node of a kind in place of the old node of a number. The new node's text has `len` bytes.
+// Returns the elements with a node of a kind in place of the old node with this number. The new node's text has `len` bytes.
 fn spliced(
     alloc: Global,
     elements: &[Packed],

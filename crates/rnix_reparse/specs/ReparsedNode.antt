@@ -9,7 +9,7 @@ use Rattle.rnix_green.specs.Tree.{Tree, forest_of}
 use Rattle.rnix_grammar.specs.Parsed.{IsParsed}
 use Rattle.rnix_reparse.specs.EditedRange.{edited}
 
--- the root of u has one child, a node; with it in place of the node of the number n, t is the parse of its text after the edit, without errors
+-- u's root has a single child, a node; t with it in place of node n is the parse of t's text after the edit, without errors
 pub record IsReparsedNode (t : Tree) (n : ℕ) (u : Tree) (range : Extent) (replacement : List ℕ) : Type 0 where
   pub node : IsNodeIn t n
   pub single : HasOnlyChild u

@@ -14,9 +14,9 @@ use crate::texts::edited_text;
 use rnix::{Parse, Root, TextRange};
 use std::alloc::{AllocError, Global};
 
-/// Makes a parse that of the text after an edit that replaces the bytes in `range`, as `reparse` returns it. If a node is parsed alone and has as many elements
-/// as before, the tree is not copied: only the node's elements and the starts of those after it are written. The text is copied. A parse that is refused memory
-/// stays as it was.
+/// Updates a parse to that of the text after an edit, which replaces the bytes in `range`: the result is what `reparse` returns. If a node is parsed alone and
+/// has as many elements as before, the tree is not copied: only the node's elements and the starts of those after it are written. The text is copied. A parse
+/// that is refused memory stays as it was.
 pub fn reparse_in_place(
     alloc: Global,
     parse: &mut Parse,
@@ -30,7 +30,7 @@ pub fn reparse_in_place(
     ensures again { OnOk result (IsParsedText parse.new) }
     ensures err { OnErr result (parse.new ≡ parse.old) }
 {
-    // Nothing is computed here. The contract of the call says that the text is UTF-8.
+    // Called only for its contract, from which the proof learns that the text is UTF-8.
     let _text = parse.text();
     if parse.errors().is_empty() {
         if let Some(new) = reparse_node(alloc, parse.green(), range, replacement)? {

@@ -54,7 +54,7 @@ pub(crate) struct NewNode {
     pub(crate) parse: Parse,
 }
 
-/// Returns a node around the range for which it is enough to parse it alone after an edit of a text without errors. The smallest is tried first.
+/// Parses nodes around the range alone, the smallest first. Returns the first that may replace the old node in the tree, or `None`.
 pub(crate) fn reparse_node(
     alloc: Global,
     green: &GreenNode,

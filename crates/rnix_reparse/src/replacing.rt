@@ -17,8 +17,8 @@ use rnix::{Parse, Root, TextRange};
 use rnix_green::GreenNode;
 use std::alloc::{AllocError, Global};
 
-/// Returns the parse of a node's new text after an edit between the node's brackets, if that text alone is read without errors, as one node with these
-/// brackets that nests no deeper than may be there.
+/// Returns the parse of a node's new text after an edit between the node's brackets, if that text alone has no errors, is one node with these brackets, and
+/// does not nest too deep for its place.
 pub(crate) fn reparsed_node(
     alloc: Global,
     green: &GreenNode,
@@ -32,7 +32,7 @@ pub(crate) fn reparsed_node(
     requires between { IsBetween green.now number (bounds_of range) }
     ensures { IfOk result (λ found. IfSome found (λ new. IsReparsedNode green.now number new.tree (bounds_of range) replacement.now)) }
 {
-    // Nothing is computed here. The contract of the call says that the text is UTF-8.
+    // Called only for its contract, from which the proof learns that the text is UTF-8.
     let _text = green.text_at(0);
     let first = green.element(number).start;
     let (start, end) = (range.start() - first, range.end() - first);

@@ -81,7 +81,7 @@ pub fn are_same(alloc: Global, parse: &Parse, other: &Parse) -> Result<bool, All
     Ok(parse.green().is_same(other.green()) && errors == other_errors)
 }
 
-/// Returns whether the parse after an edit is that of the new text, and also if it is edited in place.
+/// Returns whether `reparse` and `reparse_in_place` both give the parse of the new text.
 pub fn is_parse_after(alloc: Global, edit: Edit<'_>) -> Result<bool, AllocError> {
     let (before, old, new, after) = edit;
     let text = joined(alloc, [before, old, after])?;
@@ -95,7 +95,7 @@ pub fn is_parse_after(alloc: Global, edit: Edit<'_>) -> Result<bool, AllocError>
     Ok(is_edited && are_same(alloc, &other, &whole)? && are_same(alloc, &parse, &whole)?)
 }
 
-// Returns a text with so many lines before it that it is a small part, as the value of the last entry of a set.
+// Returns the text after 400 lines, as the value of the last entry of a set, so that it is a small part of the whole.
 fn long_before(alloc: Global, before: &str) -> Result<String, AllocError> {
     let mut text = String::from_str(alloc, "{\n")?;
     for _ in 0..400 {
@@ -106,7 +106,7 @@ fn long_before(alloc: Global, before: &str) -> Result<String, AllocError> {
     Ok(text)
 }
 
-/// Returns whether that is so in a short text and in a long one, of which the edited node is a small part.
+/// Returns whether they do in a short text and in a long one, of which the edited node is a small part.
 pub fn is_parse_after_both(alloc: Global, edit: Edit<'_>) -> Result<bool, AllocError> {
     let (before, old, new, after) = edit;
     let long_before = long_before(alloc, before)?;

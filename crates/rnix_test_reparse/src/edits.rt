@@ -173,7 +173,7 @@ fn an_edit_with_errors_gives_the_parse_of_the_new_text(rt: HostRuntime) -> Resul
     Ok(())
 }
 
-// Returns so many brackets.
+// Returns a text of `count` brackets.
 fn repeated(alloc: Global, bracket: &str, count: usize) -> Result<String, AllocError> {
     let mut text = String::new(alloc);
     for _ in 0..count {

@@ -1,4 +1,4 @@
-//! White space in small texts: what is found is what Nix does not read as white space.
+//! White space in small texts: what is found is what Nix refuses.
 
 use nix_lints::foreign_spaces;
 use rnix::Root;

@@ -1,5 +1,5 @@
-//! Tests of names: what they refer to is what maps find, one for each scope, in texts that were written for it and in random ones; and which of them
-//! define an attribute again. Tests of white space that Nix does not read.
+//! Tests of names: `resolve` agrees with a second implementation, which has a map for each scope, on fixed and on random texts. Tests of repeated
+//! attributes and of white space that Nix refuses.
 #![tactic(auto)]
 
 #[cfg(test)]

@@ -24,7 +24,8 @@ shown_of event = shown_event event.0 event.1.0 (item_of event.1.1).kind (text_at
 abbrev pub EndsBefore : ℕ → Event → Type 0
 EndsBefore offset event = (item_of event.1.1).end < offset
 
--- the events of the siblings that a walk enters next and that end before an offset, with what is inside them; so many of them are not left yet
+-- the events of the siblings that a walk enters next and that end before an offset, with what is inside them; the depth is the number of elements
+-- among them that the walk has entered and not left
 abbrev pub siblings_before : ℕ → ℕ → List Event → List Event
 siblings_before offset zero [] = []
 siblings_before offset (suc d) [] = []
