@@ -21,19 +21,19 @@ rooted f = record { kind = NODE_ROOT; children = f }
 -- A node of a tree that is the reading of a text without errors: its place, its kind, its first and last token, and what is between them, in the old text and
 -- in a text that is read as one such node alone, without errors; both have the same tokens up to the opening bracket, and the new node nests no deeper than
 -- the limit allows in the place of the old one.
-pub record IsEdited (before old after new : List ℕ) (place : Context) (kind remaining right : SyntaxKind) (opening closing : List ℕ)
+pub record IsEdited (before old after new : List ℕ) (place : Context) (kind left right : SyntaxKind) (opening closing : List ℕ)
     (inside edited : Forest) : Type 0 where
-  pub brackets : IsBracketed kind remaining right
-  pub same_brace : precedes_brace remaining ≡ true → HaveSameBrace inside edited
+  pub brackets : IsBracketed kind left right
+  pub same_brace : precedes_brace left ≡ true → HaveSameBrace inside edited
   pub start : text_before place ≡ before
-  pub extent : text_of (between remaining opening inside right closing) ≡ old
-  pub reading : IsReading (tokens_of (before ++ (old ++ after))) (rooted (filled place kind (between remaining opening inside right closing))) []
-  pub alone : IsReading (tokens_of new) (rooted (node kind (between remaining opening edited right closing) empty)) []
-  pub shallow : levels_around NODE_ROOT kind place + nest kind (significant (between remaining opening edited right closing)) ≤ depth_limit
+  pub extent : text_of (between left opening inside right closing) ≡ old
+  pub reading : IsReading (tokens_of (before ++ (old ++ after))) (rooted (filled place kind (between left opening inside right closing))) []
+  pub alone : IsReading (tokens_of new) (rooted (node kind (between left opening edited right closing) empty)) []
+  pub shallow : levels_around NODE_ROOT kind place + nest kind (significant (between left opening edited right closing)) ≤ depth_limit
 
 -- with such an edit, the text with the new node in place of the old one is read without errors, as the old tree with the new node in place of the old one
 abbrev pub IsReparsed : List ℕ → List ℕ → List ℕ → List ℕ → Type 0
 IsReparsed before old after new =
-    (place : Context) (kind remaining right : SyntaxKind) (opening closing : List ℕ) (inside edited : Forest)
-    → IsEdited before old after new place kind remaining right opening closing inside edited
-    → OfRead (before ++ (new ++ after)) (λ tree faults. (tree ≡ rooted (filled place kind (between remaining opening edited right closing))) × (faults ≡ []))
+    (place : Context) (kind left right : SyntaxKind) (opening closing : List ℕ) (inside edited : Forest)
+    → IsEdited before old after new place kind left right opening closing inside edited
+    → OfRead (before ++ (new ++ after)) (λ tree faults. (tree ≡ rooted (filled place kind (between left opening edited right closing))) × (faults ≡ []))
