@@ -136,7 +136,7 @@ fn parts_without_children_have_no_parts(rt: HostRuntime) -> Result<(), Fail> {
 }
 
 #[test]
-fn a_pattern_has_a_sign_of_its_own(rt: HostRuntime) -> Result<(), Fail> {
+fn a_pattern_may_have_an_at_sign(rt: HostRuntime) -> Result<(), Fail> {
     let tokens = [
         (SyntaxKind::TOKEN_WHITESPACE, " "),
         (SyntaxKind::TOKEN_AT, "@"),

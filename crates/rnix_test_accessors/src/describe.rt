@@ -49,7 +49,7 @@ pub fn describe_node(alloc: Global, node: SyntaxNode<'_>) -> Result<String, Allo
     }
 }
 
-// The same of literals, strings, paths, errors and of the parts of expressions.
+// Describes what the accessors return of literals, strings, paths, errors and of the parts of expressions.
 fn describe_part(alloc: Global, node: SyntaxNode<'_>) -> Result<String, AllocError> {
     match node.kind() {
         SyntaxKind::NODE_ATTRPATH => describe_as::<Attrpath<'_>>(alloc, node),

@@ -1,5 +1,5 @@
-//! Stored lists. A case is a line with two numbers, then so many bytes of text, then so many bytes that are wanted of it, then the end of
-//! the line.
+//! Stored lists. A case is a line with two lengths, then a text of the first length in bytes, then what is wanted of it, of the second length, then
+//! the end of the line.
 
 /// A text, and what is wanted of it.
 #[derive(Clone, Copy)]

@@ -1,4 +1,4 @@
-//! New nodes, compared with the nodes that their texts are alone.
+//! New nodes, compared with the nodes that their texts give when parsed alone.
 
 use crate::found::{node_of, shown};
 use rnix::{Root, SyntaxElement, SyntaxKind, SyntaxNode};

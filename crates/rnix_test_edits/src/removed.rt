@@ -1,4 +1,4 @@
-//! Texts without nodes.
+//! Texts from which a node is removed.
 
 use crate::found::{node_of, shown};
 use rnix::{Root, SyntaxKind};
@@ -17,7 +17,7 @@ fn removed(alloc: Global, text: &str, kind: SyntaxKind, own: &str) -> Result<Str
 }
 
 #[test]
-fn an_entry_goes_with_its_line(rt: HostRuntime) -> Result<(), Fail> {
+fn an_entry_is_removed_with_its_line(rt: HostRuntime) -> Result<(), Fail> {
     let cases = [
         ("{\n  a = 1;\n  b = 2;\n}\n", "{\n  a = 1;\n}\n"),
         ("{\n  b = 2;\n  a = 1;\n}\n", "{\n  a = 1;\n}\n"),
@@ -26,7 +26,7 @@ fn an_entry_goes_with_its_line(rt: HostRuntime) -> Result<(), Fail> {
             "{\r\n  a = 1;\r\n}\r\n",
         ),
         ("{\n\tb = 2;\n}", "{\n}"),
-        // Comments after it go, those on other lines stay.
+        // Comments after it are removed, those on other lines stay.
         ("{\n  # a\n  b = 2; # b\n  # c\n}", "{\n  # a\n  # c\n}"),
         ("{\r\n  b = 2; # b\r\n  # c\r\n}", "{\r\n  # c\r\n}"),
         ("{\n  b = 2; /* b */ # c\n}", "{\n}"),
@@ -42,7 +42,7 @@ fn an_entry_goes_with_its_line(rt: HostRuntime) -> Result<(), Fail> {
 }
 
 #[test]
-fn an_entry_goes_from_its_line(rt: HostRuntime) -> Result<(), Fail> {
+fn an_entry_is_removed_from_its_line(rt: HostRuntime) -> Result<(), Fail> {
     let cases = [
         ("{ a = 1; b = 2; }", "{ a = 1; }"),
         ("{ b = 2; a = 1; }", "{ a = 1; }"),
@@ -66,7 +66,7 @@ fn an_entry_goes_from_its_line(rt: HostRuntime) -> Result<(), Fail> {
 }
 
 #[test]
-fn an_item_goes(rt: HostRuntime) -> Result<(), Fail> {
+fn an_item_is_removed(rt: HostRuntime) -> Result<(), Fail> {
     let cases = [
         ("[ a b ]", "[ a ]"),
         ("[ b a ]", "[ a ]"),

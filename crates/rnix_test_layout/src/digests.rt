@@ -1,4 +1,4 @@
-//! Digests of formatted texts: for each list of expressions one of the texts of each expression, in order.
+//! Digests of formatted texts: a list for each list of expressions, with one digest for all texts of an expression.
 
 /// The digest of no text.
 pub const START: u64 = 0xcbf2_9ce4_8422_2325;

@@ -135,7 +135,7 @@ const TEXTS: [&str; 58] = [
     "{ a = ''\n\tb\n  c\n\t'' + \"\t\r\n\"; }",
 ];
 
-// A letter written some times.
+// A letter, `count` times.
 fn repeated(alloc: Global, letter: char, count: usize) -> Result<String, AllocError> {
     let mut text = String::new(alloc);
     for _ in 0..count {
@@ -144,7 +144,7 @@ fn repeated(alloc: Global, letter: char, count: usize) -> Result<String, AllocEr
     Ok(text)
 }
 
-// Compares the digest of expressions with words of some letters, of 20 lengths from the given one on, with the stored one of each.
+// Compares the digest of each expression, with words of 20 lengths from `least` on, with the stored one.
 fn check_widths(
     rt: &(impl Abort + AllocGlobal),
     outers: &[&str],
@@ -165,7 +165,7 @@ fn check_widths(
     Ok(())
 }
 
-// An expression that is nested some times in another one.
+// An expression inside `levels` levels of another one.
 fn nested(alloc: Global, outer: &str, inner: &str, levels: usize) -> Result<String, AllocError> {
     let mut text = filled(alloc, "%", inner)?;
     for _ in 0..levels {

@@ -24,7 +24,7 @@ fn formatted_text(alloc: Global, text: &str) -> Result<String, AllocError> {
     }
 }
 
-// Checks that a text is formatted twice, and that this changes nothing more.
+// Checks that a text's first layout is not the final one, and that the final one stays the same when it is formatted.
 fn check(rt: &(impl Abort + AllocGlobal), text: &str) -> Result<(), AllocError> {
     let made = formatted_text(rt.alloc(), text)?;
     let again = formatted_text(rt.alloc(), made.as_str())?;

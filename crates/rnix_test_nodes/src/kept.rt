@@ -6,7 +6,7 @@ use std::alloc::{AllocError, Global};
 use std::collections::HashSet;
 use std::test::Fail;
 
-// A text that was read, and where its names stand.
+// The parse of a text, and pointers to its names.
 #[derive(Drop)]
 struct Document {
     read: Parse,
@@ -25,7 +25,7 @@ fn read_document(alloc: Global, text: &str) -> Result<Document, AllocError> {
     Ok(Document { read, names })
 }
 
-// The text of the name of a number, if there is one.
+// The text of the name with this index, if there is one.
 fn name(document: &Document, number: usize) -> Option<&str> {
     let pointer = document.names.get(number)?;
     let node = pointer.try_to_node(&document.read.syntax())?;

@@ -134,7 +134,7 @@ fn comments_in(alloc: Global, text: &str) -> Result<String, AllocError> {
 }
 
 #[test]
-fn comments_say_what_they_say(rt: HostRuntime) -> Result<(), Fail> {
+fn the_text_of_a_comment_has_no_delimiters(rt: HostRuntime) -> Result<(), Fail> {
     let text =
         "# comment bruh\n/* this is a multiline comment wow\nasdfasdf\nasdfasdf */\n1 + 1\n/* last one */\n";
     let wanted = " comment bruh| this is a multiline comment wow\nasdfasdf\nasdfasdf | last one |";

@@ -12,7 +12,7 @@ pub(crate) fn report_refusal(refused: bool) -> Result<(), AllocError> {
     Ok(())
 }
 
-/// What a text is read as, read again where that was refused.
+/// The parse of a text, which is parsed again if the first attempt was refused memory.
 pub(crate) fn read_again(
     rt: &impl Abort,
     alloc: Global,

@@ -97,7 +97,7 @@ fn build(rt: &impl Abort, alloc: Global, refused: &mut bool) -> Result<GreenNode
     builder.finish()
 }
 
-// The same, where a refused `finish` has all calls made again on a new builder.
+// The tree of `a ++ b ++ c`. If `finish` is refused memory, all calls are made again on a new builder.
 fn build_again(
     rt: &impl Abort,
     alloc: Global,

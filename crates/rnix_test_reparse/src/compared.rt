@@ -95,7 +95,7 @@ pub fn is_parse_after(alloc: Global, edit: Edit<'_>) -> Result<bool, AllocError>
     Ok(is_edited && are_same(alloc, &other, &whole)? && are_same(alloc, &parse, &whole)?)
 }
 
-// Returns the text after 400 lines, as the value of the last entry of a set, so that it is a small part of the whole.
+// Returns a set's first 400 lines and the beginning of its last entry, whose value begins with `before`.
 fn long_before(alloc: Global, before: &str) -> Result<String, AllocError> {
     let mut text = String::from_str(alloc, "{\n")?;
     for _ in 0..400 {
@@ -106,7 +106,7 @@ fn long_before(alloc: Global, before: &str) -> Result<String, AllocError> {
     Ok(text)
 }
 
-/// Returns whether they do in a short text and in a long one, of which the edited node is a small part.
+/// Returns whether `is_parse_after` is true of an edit in a short text and in a long one, of which the edited node is a small part.
 pub fn is_parse_after_both(alloc: Global, edit: Edit<'_>) -> Result<bool, AllocError> {
     let (before, old, new, after) = edit;
     let long_before = long_before(alloc, before)?;

@@ -1,4 +1,4 @@
-//! Texts without a pattern, of scopes in scopes and after each other.
+//! Random texts, of scopes in scopes and after each other.
 
 use std::alloc::{AllocError, Global};
 
@@ -8,7 +8,7 @@ const NAMES: [&str; 16] = [
     "ofivbaaa", "dklybaaa", "ljcacaaa", "ufnjcaaa", "eayadaaa", "kpjedaaa", "fteldaaa", "ozlvdaaa",
 ];
 
-// What is around the three names with which a form begins, and what ends it.
+// Forms: the strings before, between and after the three names that begin one, and the string that ends it.
 const FORMS: [[&str; 5]; 8] = [
     ["(let ", " = ", "; ", " = 1; in [ ", " ]) "],
     ["(let inherit ", "; ", " = ", "; in [ ", " ]) "],
@@ -20,10 +20,10 @@ const FORMS: [[&str; 5]; 8] = [
     ["{ inherit ", "; inherit (", ") ", "; body = [ ", " ]; } "],
 ];
 
-// How many forms, ends of forms and names a text has.
+// How many steps make a text: each begins a form, ends one, or adds a name.
 const STEPS: usize = 80;
 
-// Numbers without a pattern, and how many names are taken.
+// Random numbers, and how many of the names are used.
 #[derive(Drop)]
 struct Choices {
     state: u64,
@@ -75,7 +75,7 @@ impl Choices {
     }
 }
 
-/// The text of a seed, with so many names.
+/// The text of a seed, with the first `names` names.
 pub fn made_text(alloc: Global, seed: u64, names: usize) -> Result<String, AllocError> {
     let mut choices = Choices { state: seed, names };
     let mut ends = Vec::new(alloc);

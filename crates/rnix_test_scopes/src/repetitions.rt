@@ -5,7 +5,7 @@ use rnix::Root;
 use std::alloc::{AllocError, Global};
 use std::test::Fail;
 
-// A text, and where in it a name repeats an attribute and where the first name of this begins.
+// A text, and for each repetition of an attribute where it begins, and where the attribute's first name does.
 type Case = (&'static str, &'static [(usize, usize)]);
 
 // Whether these repetitions are found in the text, and no others.

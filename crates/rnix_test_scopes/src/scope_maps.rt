@@ -1,4 +1,4 @@
-//! What names refer to, found with a map for each scope, which is looked up from the innermost on.
+//! What names refer to, found with a map for each scope. The maps are searched from the innermost scope on.
 
 use crate::bound_names::{Name, is_scope, names_bound};
 use nix_scopes::{Binding, Reference};
@@ -49,7 +49,7 @@ struct Environment<'t> {
     with_bodies: Vec<SyntaxNode<'t>>,
 }
 
-// The number of a name: the one that it has, or else this one, which it then has.
+// The number of a name: the one that it has, or else `number`, which is stored.
 fn number_or(
     numbers: &mut HashMap<String, usize>,
     text: &String,
@@ -62,7 +62,7 @@ fn number_or(
     Ok(number)
 }
 
-// Binds a name in a scope that has bound these.
+// Binds a name in a scope, whose names so far have these numbers.
 fn bind<'t>(
     name: &Name<'t>,
     scope: &SyntaxNode<'t>,

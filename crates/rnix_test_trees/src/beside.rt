@@ -6,7 +6,7 @@ use rnix_kinds::SyntaxKind;
 use rnix_tree::{Direction, SyntaxNode};
 use std::test::Fail;
 
-// Whether the numbers of what comes before the node and on each side of it are those of the `2` of `[1 2 3]`.
+// Whether the node's index, and the counts of its siblings in both directions, are those of the `2` of `[1 2 3]`.
 fn are_counted(two: &SyntaxNode<'_>) -> bool {
     two.index() == 3
         && two.siblings(Direction::Next).count() == 2
@@ -22,7 +22,7 @@ fn are_of_kind(two: &SyntaxNode<'_>) -> bool {
         && is_element(close, SyntaxKind::TOKEN_R_BRACK, 6)
 }
 
-// Whether both are so of the `2`.
+// What both checks return for the `2`.
 fn stand_beside_two(root: &SyntaxNode<'_>) -> Option<(bool, bool)> {
     let two = root
         .first_child_by_kind(SyntaxKind::NODE_LIST)?

@@ -105,7 +105,7 @@ fn checkpoints_are_valid_where_no_node_stands_around_them(rt: HostRuntime) -> Re
     Ok(())
 }
 
-// So many lists, each in the one before it.
+// `levels` lists, each in the one before it.
 fn deep_lists(alloc: Global, levels: u32) -> Result<GreenNode, AllocError> {
     let mut builder = GreenNodeBuilder::new(alloc);
     for _level in 0..levels {
@@ -114,7 +114,7 @@ fn deep_lists(alloc: Global, levels: u32) -> Result<GreenNode, AllocError> {
     closed(builder, levels)
 }
 
-// The tree of a builder, once so many nodes are closed. Where others are open, there is none.
+// The tree of a builder after `levels` nodes are closed. If more are open, there is none.
 fn closed(mut builder: GreenNodeBuilder, levels: u32) -> Result<GreenNode, AllocError> {
     for _level in 0..levels {
         if builder.open_nodes() > 0 {
@@ -127,7 +127,7 @@ fn closed(mut builder: GreenNodeBuilder, levels: u32) -> Result<GreenNode, Alloc
     Err(AllocError)
 }
 
-// Whether the trees are equal, and a walk over one has so many steps.
+// Whether the trees are equal, and a walk over one has `steps` steps.
 fn are_walked(tree: &GreenNode, copy: &GreenNode, steps: usize) -> bool {
     let root = SyntaxNode::new_root(tree);
     root.preorder().count() == steps && SyntaxNode::new_root(copy) == root
@@ -150,7 +150,7 @@ const SINGLE_CALLS: [Step<'static>; 5] = [
     Step::Finish,
 ];
 
-// The same, with one call for the IDENT.
+// The same tree, with one call for the IDENT.
 const AT_ONCE: [Step<'static>; 3] = [
     Step::Start(SyntaxKind::NODE_ROOT),
     Step::LeafNode(SyntaxKind::NODE_IDENT, SyntaxKind::TOKEN_IDENT, "a"),

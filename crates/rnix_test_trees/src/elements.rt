@@ -25,7 +25,7 @@ fn is_no_token(element: SyntaxElement<'_>) -> bool {
         && element.into_node().is_some()
 }
 
-// Whether both are so of the `a`.
+// What both checks return for the `a`.
 fn agrees_with_node(root: &SyntaxNode<'_>) -> Option<(bool, bool)> {
     let element = SyntaxElement::from(root.first_child()?.first_child()?);
     Some((stands_first(&element), is_no_token(element)))

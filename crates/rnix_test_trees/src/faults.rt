@@ -1,4 +1,4 @@
-//! Runs whose ends fail at one of their calls, each call in turn.
+//! Runs whose reader or writer fails at one of its calls, each call in turn.
 
 use crate::ends::{Input, NEVER, Output};
 use rnix_kinds::tokenize;
@@ -42,7 +42,7 @@ fn run_over(
     (refused, out)
 }
 
-// Each of so many reads fails in turn: the run is refused as one that cannot read, and writes nothing. With no such read, it is not.
+// Each of the first `reads` reads fails in turn: the run returns `Read` and writes nothing. If none of them fails, all is printed.
 fn fails_at_reads(rt: &impl Abort, alloc: Global, reads: u64, kind: ErrorKind, interrupts: bool) {
     for read in 0..reads {
         let (refused, out) = run_over(alloc, read, kind, interrupts);

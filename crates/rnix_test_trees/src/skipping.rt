@@ -5,7 +5,7 @@ use rnix_kinds::SyntaxKind;
 use rnix_tree::{PreorderWithTokens, SyntaxNode, WalkEvent};
 use std::test::Fail;
 
-// How many nodes are entered where nodes of the kind are not looked into.
+// How many nodes a walk enters that skips what is inside nodes of the kind.
 fn entered_outside(node: &SyntaxNode<'_>, kind: SyntaxKind) -> usize {
     let mut walk = node.preorder();
     let mut entered: usize = 0;
@@ -20,7 +20,7 @@ fn entered_outside(node: &SyntaxNode<'_>, kind: SyntaxKind) -> usize {
     entered
 }
 
-// The same, where no node is left out, and where parentheses are.
+// How many nodes a walk enters that skips nothing, and one that skips what is inside parentheses.
 fn entered(root: &SyntaxNode<'_>) -> (usize, usize) {
     (
         entered_outside(root, SyntaxKind::NODE_ERROR),

@@ -13,7 +13,7 @@ fn repeat(text: &mut String, part: &str, turns: usize) -> Result<(), AllocError>
     Ok(())
 }
 
-// So many open parentheses, `1`, and so many closed ones.
+// `opened` opening parentheses, `1`, and `closed` closing ones.
 fn nested(alloc: Global, opened: usize, closed: usize) -> Result<String, AllocError> {
     let mut text = String::new(alloc);
     repeat(&mut text, "(", opened)?;

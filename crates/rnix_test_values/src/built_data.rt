@@ -15,14 +15,14 @@ fn value(alloc: Global, kind: usize) -> Result<Value, AllocError> {
     })
 }
 
-// Numbers without a pattern.
+// Random numbers.
 #[derive(Drop)]
 struct Numbers {
     last: u64,
 }
 
 impl Numbers {
-    // A number below another.
+    // The next number below `end`.
     fn below(&mut self, end: usize) -> usize {
         self.last = self
             .last
@@ -31,7 +31,7 @@ impl Numbers {
         (self.last >> 33) as usize % end.max(1)
     }
 
-    // The parent of the value after so many: one of the first, one of all, a number that has no value yet, or none.
+    // A parent for the next of `count` values: one of the first four, any of them, a number without a value yet, or none.
     fn parent(&mut self, count: usize) -> Option<usize> {
         match self.below(9) {
             0 => None,
@@ -42,7 +42,7 @@ impl Numbers {
     }
 }
 
-// Adds to a digest the data of so many values, which a number chooses.
+// Adds to a digest the data of `count` values, chosen by the seed `first`.
 fn with_built(alloc: Global, digest: u64, first: u64, count: usize) -> Result<u64, AllocError> {
     let mut builder = Builder::new(alloc);
     let mut numbers = Numbers { last: first };

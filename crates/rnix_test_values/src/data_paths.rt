@@ -20,7 +20,7 @@ fn push(
     Ok(())
 }
 
-// Sets in one another, each with an attribute of another name and then one of the next of these names, the innermost with a number.
+// Nested sets: each has an attribute `another name`, and then one with the next of the names, whose value is the next set or, at last, a number.
 fn nested(alloc: Global, names: &[&str]) -> Result<Data, AllocError> {
     let mut items = Vec::new(alloc);
     push(alloc, &mut items, 0, "", Value::Set)?;

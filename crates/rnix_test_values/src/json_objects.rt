@@ -14,7 +14,7 @@ fn name_of(attribute: usize) -> usize {
     attribute % 71 * 37 % 71
 }
 
-// An object of so many attributes, and then one more.
+// An object of `count` attributes, and then `last`.
 fn object(alloc: Global, prefix: &str, count: usize, last: &str) -> Result<String, AllocError> {
     let mut text = String::from_str(alloc, "{")?;
     for attribute in 0..count {

@@ -142,7 +142,7 @@ fn strings_are_read_as_stored(rt: HostRuntime) -> Result<(), Fail> {
     Ok(())
 }
 
-// Adds a piece, so many times.
+// Adds a piece, `times` times.
 fn push_times(text: &mut String, piece: &str, times: usize) -> Result<(), AllocError> {
     for _time in 0..times {
         text.push_str(piece)?;
@@ -150,7 +150,7 @@ fn push_times(text: &mut String, piece: &str, times: usize) -> Result<(), AllocE
     Ok(())
 }
 
-// A text with a beginning and an end around it, so many times.
+// A text with `before` and `after` around it, `times` times.
 fn nested(
     alloc: Global,
     times: usize,
