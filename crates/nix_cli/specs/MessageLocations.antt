@@ -5,7 +5,7 @@ use Rattle.rnix_text.specs.declared.line_column.ColumnUnit.TheVariants.{Chars}
 use Rattle.rnix_text.specs.Positions.{position_at}
 use Rattle.nix_cli.specs.declared.source.Source.{Source}
 
--- the name of a file in messages: that of standard input is `-`
+-- the name of a file in messages: `<stdin>` for standard input, whose name is `-`
 abbrev pub display_name : List ℕ → List ℕ
 display_name name = if bytes_eq name (codes "-") then codes "<stdin>" else name
 

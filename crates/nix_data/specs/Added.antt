@@ -14,8 +14,8 @@ use Rattle.nix_data.specs.declared.nix_reader.TheConstants.{LEVELS}
 use Rattle.nix_data.specs.Scalars.{scalar_of, key_of}
 use Rattle.nix_data.specs.Misread.{IsReadAlike}
 
--- where an expression adds its value: outermost; inside the list or set with a number, whose text follows this many values; as an attribute with a name in a
--- set; or nowhere
+-- where an expression adds its value: outermost; inside the list or set with the first number, in a text that begins after as many values as the second
+-- number; as an attribute with a name in the set with a number; or nowhere
 pub data Place : Type 0 where
   outermost : Place
   inside : ℕ → ℕ → Place

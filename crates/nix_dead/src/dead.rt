@@ -114,7 +114,7 @@ fn is_in_used_pattern(binding: &Binding<'_>, patterns: &BTreeSet<usize>) -> bool
     patterns.contains(&binding.scope.text_range().start())
 }
 
-// Adds a binding if it is the first part of its name, is unused, and is to be reported.
+// Adds a binding if it is the first one of its name in its scope, is unused, and is to be reported.
 fn add_unused<'t>(
     number: usize,
     binding: &Binding<'t>,

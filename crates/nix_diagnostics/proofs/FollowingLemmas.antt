@@ -17,7 +17,7 @@ use Rattle.nix_diagnostics.specs.declared.folding.Folding.{Folding}
 use Rattle.nix_diagnostics.proofs.IndependenceLemmas.{since_more, first_le, reach_token_error, reach_other}
 use Rattle.nix_diagnostics.proofs.LostLemmas.{and_true, lost_push, lost_other, skipped_push, skipped_other}
 
--- one more error is the last one if it is about an unexpected or a missing token
+-- one more error is the last token error if it is a token error
 last_push : (before : Option Fault) (faults : List Fault) (fault : Fault) →
     last_from before (faults ++ fault ∷ []) ≡ (if is_token_error fault then Some fault else last_from before faults)
 last_push before [] fault = refl
@@ -31,7 +31,7 @@ token_error_last faults fault is = last_push None faults fault ∙ ap (λ b. if 
 pub other_last : (faults : List Fault) (fault : Fault) → is_token_error fault ≡ false → last_token_error (faults ++ fault ∷ []) ≡ last_token_error faults
 other_last faults fault is = last_push None faults fault ∙ ap (λ b. if b then Some fault else last_from None faults) is
 
--- an error about an unexpected or a missing token is not about tokens after the expression
+-- a token error is not about tokens after the expression
 token_error_not_extra : (fault : Fault) → is_token_error fault ≡ true → false ≡ is_extra fault
 token_error_not_extra (unexpected_at range) is = refl
 token_error_not_extra (extra range) is = absurd (grind (arith, is))
@@ -66,7 +66,7 @@ last_known : (root : Located) (o : Option Fault) (last : Option ℕ) → last �
 last_known root None last is = ap is_some is
 last_known root (Some fault) last is = ap is_some is
 
--- the state determines whether an error about an unexpected or a missing token follows
+-- the state determines whether a token error follows from earlier errors
 pub judged_token_error : (root : Located) (all before : List Fault) (fault : Fault) (f : Folding) (independent : Bool) (group : Option TextRange)
     (location : TextRange) (b : Bool) → FitsErrors root all before f → bounds_of location ≡ location_of root fault → is_token_error fault ≡ true →
     independent ≡ is_independent root before fault → option_map bounds_of group ≡ group_of root fault →
@@ -101,7 +101,7 @@ pub unbalanced_known : (root : Located) (all before : List Fault) (fault : Fault
 unbalanced_known root all before fault f skipped b known token_error own result =
     result ∙ (λ k. known.unbalanced k || (sym token_error k && own k)) ∙ sym (skipped_push root before fault)
 
--- the new state fits the errors with one more about an unexpected or a missing token
+-- the new state fits the errors with one more token error
 pub fits_token_error : (root : Located) (all before : List Fault) (fault : Fault) (f mid new : Folding) (far : ℕ) → FitsErrors root all before f →
     is_token_error fault ≡ true → far ≡ (location_of root fault).end → HasReached mid new far → mid.last ≡ Some far → mid.end ≡ f.end → mid.extra ≡ f.extra →
     mid.lost_from ≡ f.lost_from → mid.reach ≡ f.reach → drop mid.passed mid.semicolons.items ≡ drop f.passed f.semicolons.items →
@@ -150,7 +150,7 @@ fits_other root all before fault f known other =
       remaining = known.remaining;
     }
 
--- the tests that remain if an error is about an unexpected or a missing token, and not about tokens after the expression
+-- the tests that remain for a token error, which is not about tokens after the expression
 abbrev rest_of : (root : Located) (all before : List Fault) (fault : Fault) → Bool
 rest_of root all before fault = if is_independent root before fault then is_closing root before fault else is_joined root all before fault
 

@@ -37,7 +37,7 @@ reach_push root end [] fault = step (is_token_error fault) refl where
   step b is = refl
 reach_push root end (f ∷ faults) fault = reach_push root (if is_token_error f then larger end (location_of root f).end else end) faults fault
 
--- after an error about an unexpected or a missing token, the reach is the larger of the old reach and the error's end
+-- after a token error, the reach is the larger of the old reach and the error's end
 pub reach_token_error : (root : Located) (faults : List Fault) (fault : Fault) → is_token_error fault ≡ true →
     reach root (faults ++ fault ∷ []) ≡ larger (reach root faults) (location_of root fault).end
 reach_token_error root faults fault is =

@@ -64,7 +64,7 @@ pub lost_push : (root : Located) (all before : List Fault) (fault : Fault) →
     is_lost root all (before ++ fault ∷ []) ≡ ((is_lost root all before && not (resynchronizes root before fault)) || loses root all fault)
 lost_push root all before fault = lost_in_push root all [] before fault
 
--- an error that is not about an unexpected or a missing token does not change whether the parser has lost its way
+-- an error that is not a token error does not change whether the parser has lost its way
 pub lost_other : (root : Located) (all before : List Fault) (fault : Fault) → is_token_error fault ≡ false →
     is_lost root all (before ++ fault ∷ []) ≡ is_lost root all before
 lost_other root all before fault other =
@@ -80,7 +80,7 @@ skipped_push root before fault =
     list_any-append (λ f. is_token_error f && skips root f) before (fault ∷ [])
     ∙ ap (λ b. has_skipped root before || b) (or_false (is_token_error fault && skips root fault))
 
--- an error that is not about an unexpected or a missing token does not change whether brackets were skipped
+-- an error that is not a token error does not change whether brackets were skipped
 pub skipped_other : (root : Located) (before : List Fault) (fault : Fault) → is_token_error fault ≡ false →
     has_skipped root (before ++ fault ∷ []) ≡ has_skipped root before
 skipped_other root before fault other =

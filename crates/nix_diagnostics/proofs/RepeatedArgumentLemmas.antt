@@ -15,7 +15,7 @@ use Rattle.nix_diagnostics.specs.{Locations.{range_or, location_of}, TokenErrors
 use Rattle.nix_diagnostics.proofs.FirstShownLemmas.{AreFirstOf, added_after, all_first}
 use Rattle.nix_diagnostics.specs.FirstShown.{AreFirst}
 
--- an error about a repeated name is not one about an unexpected or a missing token
+-- an error about a repeated name is not a token error
 no_token_error : (fault : Fault) → is_repeated_name fault ≡ true → is_token_error fault ≡ false
 no_token_error (duplicated_args range name) is = refl
 no_token_error fault is = cc

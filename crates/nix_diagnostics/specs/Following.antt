@@ -1,4 +1,4 @@
--- Which errors follow from an earlier one, and so share its diagnostic. A token error is an error about an unexpected or missing token.
+-- Which errors follow from an earlier one, and so share its diagnostic. A token error is one of those in `TokenErrors`.
 use Rattle.std.specs.Prelude.{ℕ, ◌+◌, ◌-◌, ◌==◌, Bool, true, false, not, nat_lt, nat_le, ◌||◌, ◌&&◌, List, [], ◌∷◌, ◌++◌, length, take, drop, Option, Some, None}
 use Rattle.std.specs.Prelude.{is_some, is_none, if◌then◌else◌}
 use Rattle.std.specs.List.{list_any}

@@ -1,4 +1,4 @@
--- Entries that end between errors. A token error is an error about an unexpected or missing token.
+-- Entries that end between errors. A token error is one of those in `TokenErrors`.
 use Rattle.std.specs.Prelude.{ℕ, ◌&&◌, ◌||◌, nat_lt, nat_le, Bool, true, false, not, List, [], ◌∷◌, Option, Some, None, if◌then◌else◌}
 use Rattle.rnix_kinds.specs.declared.kinds.SyntaxKind.{SyntaxKind}
 use Rattle.rnix_kinds.specs.declared.kinds.SyntaxKind.TheVariants.{NODE_ATTRPATH_VALUE, NODE_INHERIT, TOKEN_SEMICOLON}

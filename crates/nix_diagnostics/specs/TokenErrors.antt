@@ -1,4 +1,4 @@
--- Token errors: errors about unexpected or missing tokens.
+-- Token errors: all errors except those about repeated arguments and about tokens after the expression.
 use Rattle.std.specs.Prelude.{Bool, true, false}
 use Rattle.rnix_grammar.specs.Fault.{Fault, extra, duplicated_args}
 

@@ -28,7 +28,7 @@ use rnix::{NodeOrToken, ParseError, SyntaxKind, SyntaxNode, SyntaxToken, TextRan
 pub struct Folding {
     // The `;` of the entries and `inherit`s, in order.
     semicolons: Vec<Semicolon>,
-    // The largest end of the errors about unexpected or missing tokens so far, and the index of the first `;` that does not start before it.
+    // The largest end of the token errors so far, and the index of the first `;` that does not start before it.
     reach: usize,
     passed: usize,
     // Whether the text ends inside a string, and whether it ends with a token that closes something.
@@ -42,7 +42,7 @@ pub struct Folding {
     extra: Option<TextRange>,
     // The end of the last token other than trivia.
     end: usize,
-    // The end of the last error about an unexpected or a missing token.
+    // The end of the last token error.
     last: Option<usize>,
     // The range of the list, pattern, .. around that error.
     group: Option<TextRange>,
@@ -72,7 +72,7 @@ fn group(node: &SyntaxNode<'_>) -> Option<TextRange>
     }
 }
 
-// Returns the same for the error node of an error, if it has one.
+// Returns the range of the list, pattern, string or entry around an error's node, if it has one.
 fn group_of(node: &Option<SyntaxNode<'_>>) -> Option<TextRange>
     ensures { option_map bounds_of result ≡ group_around node.now }
 {
@@ -192,7 +192,7 @@ impl Folding {
         depth > 0
     }
 
-    // Returns the same for an error node, if there is one.
+    // Returns whether an error has a node whose tokens close something that was opened before it, or leave something open.
     fn skips_if(&self, node: &Option<SyntaxNode<'_>>) -> bool
         ensures { result ≡ skips_if (option_map bounds_of self.now.extra) node.now }
     {
@@ -284,7 +284,7 @@ impl Folding {
         self.is_joined(root, group, last, location)
     }
 
-    // Returns whether the text ends inside a string, and there was an error about an unexpected or a missing token.
+    // Returns whether the text ends inside a string, and there was a token error.
     fn is_inside(&self) -> bool
         ensures { result ≡ (self.now.in_string && is_some self.now.last) }
     {
@@ -299,7 +299,7 @@ impl Folding {
         self.passed = first_since(self.semicolons.as_slice(), self.passed, self.reach);
     }
 
-    // Adds an error about an unexpected or a missing token, and returns whether it follows from earlier ones.
+    // Adds a token error, and returns whether it follows from earlier errors.
     fn add_token_error(
         &mut self,
         root: &SyntaxNode<'_>,

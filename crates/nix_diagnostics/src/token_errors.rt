@@ -7,7 +7,7 @@ ghost use Rattle.nix_diagnostics.specs.TokenErrors.{is_token_error, is_repeated_
 
 use rnix::ParseError;
 
-/// Returns whether an error is about an unexpected or a missing token.
+/// Returns whether an error is a token error: neither about a repeated argument nor about tokens after the expression.
 pub fn is_token_error(error: &ParseError) -> bool
     ensures { result ≡ is_token_error (fault_of error.now) }
 {

@@ -8,7 +8,7 @@ use crate::line_ends::comment_end_of;
 use crate::modes::Modes;
 use crate::piece::{Gap, Piece};
 
-// Returns whether the line ends between two pieces, the first of which is not a comment with `#`, or at the end of the text.
+// Returns whether a line that does not end with a `#` comment ends between two pieces or at the end of the text.
 fn has_line_end(pieces: &[Piece], modes: &Modes) -> bool {
     let mut follows_comment = true;
     for piece in pieces {

@@ -64,7 +64,7 @@ const SOFT: Spacing = Spacing {
     ..GLUED
 };
 
-// Returns the same after an opening bracket, and before a closing one.
+// Returns the white space as it is after an opening bracket or keyword.
 fn opening(spacing: Spacing) -> Spacing {
     Spacing {
         opens: true,
@@ -72,6 +72,7 @@ fn opening(spacing: Spacing) -> Spacing {
     }
 }
 
+// Returns the white space as it is before a closing bracket or keyword, at the level of the group.
 fn closing(spacing: Spacing) -> Spacing {
     Spacing {
         closes: true,
@@ -80,7 +81,7 @@ fn closing(spacing: Spacing) -> Spacing {
     }
 }
 
-// Returns the same at the level of the group.
+// Returns the white space with the next line at the level of the group.
 fn level(spacing: Spacing) -> Spacing {
     Spacing {
         level: Level::Same,
@@ -88,7 +89,7 @@ fn level(spacing: Spacing) -> Spacing {
     }
 }
 
-// Returns the same, always with a line feed.
+// Returns the white space with a line feed that is always written.
 fn hard(spacing: Spacing) -> Spacing {
     Spacing {
         is_hard: true,
@@ -96,7 +97,7 @@ fn hard(spacing: Spacing) -> Spacing {
     }
 }
 
-// Returns the same, keeping a line feed of the old text.
+// Returns the white space with a line feed if the old text has one.
 fn keeping_break(spacing: Spacing) -> Spacing {
     Spacing {
         keeps_break: true,
@@ -104,7 +105,7 @@ fn keeping_break(spacing: Spacing) -> Spacing {
     }
 }
 
-// Returns the same, keeping an empty line of the old text.
+// Returns the white space with an empty line if the old text has one.
 fn keeping_empty(spacing: Spacing) -> Spacing {
     Spacing {
         keeps_empty: true,
@@ -112,7 +113,7 @@ fn keeping_empty(spacing: Spacing) -> Spacing {
     }
 }
 
-// Returns the same in the group of the condition.
+// Returns the white space as a part of the group of the condition.
 fn inner(spacing: Spacing) -> Spacing {
     Spacing {
         is_inner: true,

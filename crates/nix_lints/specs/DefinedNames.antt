@@ -14,9 +14,9 @@ use Rattle.rnix.specs.NodeKinds.{is_attr, is_expr}
 use Rattle.nix_lints.specs.declared.definition.Definition.{Definition}
 use Rattle.nix_lints.specs.declared.definition.NameSite.{NameSite}
 
--- where a name is written. Its owner is the name before it in its path, or else the set or `let` with its entry, given by where that begins. The owner of
--- the names inside its attribute is the set that is its value, or else the name itself. The rest says whether it follows another name in its path, and
--- whether other entries may add names to its attribute, because its path continues or its value is a set
+-- where a name is written. Its owner is the name before it in its path, or else the set or `let` that contains its entry; the owner is identified by where
+-- it begins. `inner` is the owner of the names inside its attribute: the set that is its value, or else the name itself. The rest says whether it follows
+-- another name in its path, and whether other entries may add names to its attribute, because its path continues or its value is a set
 pub record Site : Type 0 where
   pub extent : Extent
   pub owner : ℕ

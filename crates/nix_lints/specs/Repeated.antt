@@ -7,8 +7,8 @@ use Rattle.rnix_green.specs.Tree.{Located}
 use Rattle.nix_lints.specs.DefinedNames.{Site, Name, names_in}
 use Rattle.nix_lints.specs.declared.repeated.Repeated.{Repeated}
 
--- what some names define. A set is identified by where it begins, and an attribute by the owner of the names inside the first name that defines it. Each
--- owner has an attribute, possibly only itself; and each attribute may have a first name
+-- what some names define. A set is identified by where it begins, and an attribute by `inner` of the first name that defines it. `attribute` maps the owner
+-- of a name to the set or attribute that has the name inside it; `first` maps a set or attribute, and a text, to the first name with this text inside it
 pub record Known : Type 0 where
   pub attribute : ℕ → ℕ
   pub first : ℕ → List ℕ → Option Site

@@ -93,7 +93,7 @@ impl NewName<'_> {
     }
 }
 
-// Returns whether there are as many bindings, and each is the same one.
+// Returns whether another text has as many bindings, each the same one with the new name.
 fn are_bound_alike(bindings: &[Binding<'_>], others: &[Binding<'_>], name: &NewName<'_>) -> bool
     requires { IsNonDecreasing name.now.ends.items }
     ensures { Decides result (AllZip (IsBoundAlike (rename_by name.now)) bindings.now others.now) }
@@ -109,7 +109,7 @@ fn are_bound_alike(bindings: &[Binding<'_>], others: &[Binding<'_>], name: &NewN
     true
 }
 
-// Returns whether there are as many references, and each is the same one.
+// Returns whether another text has as many references, each the same one with the new name.
 fn refer_alike(references: &[Reference<'_>], others: &[Reference<'_>], name: &NewName<'_>) -> bool
     requires { IsNonDecreasing name.now.ends.items }
     ensures { Decides result (AllZip (RefersAlike (rename_by name.now)) references.now others.now) }
@@ -125,7 +125,7 @@ fn refer_alike(references: &[Reference<'_>], others: &[Reference<'_>], name: &Ne
     true
 }
 
-// Returns whether another text has the same bindings and references.
+// Returns whether another text has the same bindings and references with the new name.
 fn are_alike(names: &Resolution<'_>, others: &Resolution<'_>, name: &NewName<'_>) -> bool
     requires { IsNonDecreasing name.now.ends.items }
     ensures { Decides result (AreAlike (rename_by name.now) names.now others.now) }

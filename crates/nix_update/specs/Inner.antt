@@ -11,13 +11,13 @@ use Rattle.rnix_base.specs.TokenOperators.{first_operator, binary_operator}
 use Rattle.rnix_base.specs.Select.{child_of, tokens_in}
 use Rattle.rnix.specs.NodeKinds.{is_expr}
 
--- whether an operand of `//` with this kind may be the one that a path means: a set, or another operation
+-- whether an operand of `//` with this kind may be the one into which a path leads: a set, or another operation
 abbrev pub is_candidate : SyntaxKind → Bool
 is_candidate k.NODE_ATTR_SET = true
 is_candidate k.NODE_BIN_OP = true
 is_candidate _ = false
 
--- the one of two operands that a path may mean, if it cannot mean the other
+-- the one of two operands into which a path may lead, if it cannot lead into the other
 abbrev pub only_candidate : Located → Located → Option Located
 only_candidate left right =
     if is_candidate (item_of left).kind then (if is_candidate (item_of right).kind then None else Some left)
@@ -28,17 +28,17 @@ abbrev pub only_candidate_if : Option Located → Option Located → Option Loca
 only_candidate_if (Some left) (Some right) = only_candidate left right
 only_candidate_if _ _ = None
 
--- the operand that a path means in a node with an operator: only `//` has one
+-- the operand into which a path leads in a node with an operator: only `//` has one
 abbrev pub operand_by : Option BinOpKind → Located → Option Located
 operand_by (Some op.Update) e = only_candidate_if (child_of is_expr 0 e) (child_of is_expr 1 e)
 operand_by _ e = None
 
--- the operand that a path means in a node, if the node is an operation
+-- the operand into which a path leads in a node, if the node is an operation
 abbrev pub operand : Located → Option Located
 operand e =
     if same_kind k.NODE_BIN_OP (item_of e).kind then operand_by (first_operator binary_operator (tokens_in (children_of e))) e else None
 
--- the expression that a path means inside a node of a kind
+-- the expression into which a path leads inside a node of a kind
 abbrev pub inner_by : SyntaxKind → Located → Option Located
 inner_by k.NODE_ROOT e = child_of is_expr 0 e
 inner_by k.NODE_PAREN e = child_of is_expr 0 e
@@ -50,7 +50,7 @@ inner_by k.NODE_APPLY e = child_of is_expr 1 e
 inner_by k.NODE_BIN_OP e = operand e
 inner_by _ e = None
 
--- the expression that a path means inside a node: the one in brackets, the body of a function, a `let`, a `with` or an `assert`, the
+-- the expression into which a path leads inside a node: the one in brackets, the body of a function, a `let`, a `with` or an `assert`, the
 -- argument of a call, or the only operand of `//` that is a set or another operation
 abbrev pub inner : Located → Option Located
 inner e = inner_by (item_of e).kind e

@@ -59,7 +59,7 @@ is_defining matches.Exact = true
 is_defining matches.Longer = true
 is_defining matches.Inherited = true
 
--- whether an entry with this match names no other attributes, as an `inherit` may
+-- whether an entry with this match defines the attribute of the path, or a part of it, and nothing else: an `inherit` may have other names
 abbrev pub is_removable : PathMatch → Bool
 is_removable matches.Exact = true
 is_removable matches.Longer = true

@@ -39,7 +39,7 @@ values_by k.NODE_ATTR_SET names w = values_in names w.at w.in_let w.node
 values_by k.NODE_LET_IN names w = values_in names w.at true w.node
 values_by _ names w = []
 
--- what follows an expression along the path: the values in which the path continues, and the expression that the path means inside it
+-- what follows an expression along the path: the values in which the path continues, and the expression into which the path leads inside it
 abbrev pub next_steps : List (List ℕ) → PathStep → List PathStep
 next_steps names w = values_by (item_of w.node).kind names w ++ step_if (inner w.node) w.at w.in_let
 

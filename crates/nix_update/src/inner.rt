@@ -20,7 +20,7 @@ pub fn expr_at<'t>(node: &SyntaxNode<'t>, number: usize) -> Option<SyntaxNode<'t
     Some(expr.syntax().clone())
 }
 
-// Returns whether PATH may mean an operand of `//`: it is a set or another operation.
+// Returns whether PATH may lead into an operand of `//`: a set or another operation.
 fn is_candidate(operand: &SyntaxNode<'_>) -> bool
     ensures { result ≡ is_candidate (item_of operand.now).kind }
 {
@@ -47,7 +47,7 @@ fn only_candidate<'t>(left: SyntaxNode<'t>, right: SyntaxNode<'t>) -> Option<Syn
     }
 }
 
-// Returns the operand that PATH means, if the operation is `//` and there is just one such operand.
+// Returns the operand into which PATH leads, if the operation is `//` and PATH may lead into just one of the two.
 fn operand<'t>(node: &SyntaxNode<'t>) -> Option<SyntaxNode<'t>>
     ensures { result ≡ operand node.now }
 {

@@ -90,7 +90,7 @@ impl Attributes {
         }
     }
 
-    // Adds an attribute, as which no other value is found.
+    // Adds a value as an attribute. No other value may be found for its set and name.
     fn add<V: Values>(
         &mut self,
         alloc: Global,
