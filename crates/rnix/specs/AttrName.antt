@@ -14,8 +14,8 @@ use Rattle.rnix_base.specs.Select.{child_of, token_of}
 use Rattle.rnix.specs.NodeKinds.{is_expr}
 use Rattle.rnix.specs.StringParts.{string_parts, plain_value}
 
--- where Nix's tokenizer is in a text in `''` after one more byte: at 0 its token may continue, at 36 and 39 it has seen a `$` or a quote, which belong to
--- the token unless `{` or a quote follows, or a quote or `$`; at 1 it has cut the text
+-- where Nix's tokenizer is in a text in `''` after one more byte: at 0 its token may continue; at 36 it has seen a `$`, which belongs to the token unless
+-- `{` or a quote follows; at 39 it has seen a quote, which belongs to the token unless a quote or `$` follows; at 1 it has cut the text
 abbrev pub state_behind : ℕ → ℕ → ℕ
 state_behind state b =
     if state == 0 then (if b == 36 || b == 39 then b else 0)

@@ -3,7 +3,7 @@ use Rattle.std.proofs.Common.{◌≡◌, ◌+◌, ◌-◌, ◌++◌, ◌∙◌, 
 use Rattle.{std.{proofs.{Common.{ap, drop, arith}, lemmas.Bool.Decides.nat_tests}, specs.{Prelude.if◌then◌else◌, List.flat_map}}, rnix_base.specs.Normal.Symbol}
 use Rattle.rnix_base.specs.{Normal.{is_byte, is_gap, is_feed, before_line, lines, indentation, shortened}, Indent.{is_lost, remaining_after}}
 
--- what remains of lines, if the first one loses up to `left` spaces and each other one up to `n`
+-- what remains of lines, if the first one loses up to `remaining` spaces and each other one up to `n`
 unfoldable pub shortened_from : ℕ → ℕ → List (List Symbol) → List Symbol
 shortened_from n remaining [] = []
 shortened_from n remaining (line ∷ lines) = shortened remaining line ++ flat_map (shortened n) lines

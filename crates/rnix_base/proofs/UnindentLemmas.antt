@@ -17,7 +17,7 @@ remaining_behind_byte : (least remaining b : ℕ) (rest : List ℕ) → remainin
 unfolding remaining_behind
 remaining_behind_byte least remaining b rest = refl
 
--- the spaces at the beginning of a text are removed, up to `left`
+-- the spaces at the beginning of a text are removed, up to `remaining`
 pub lose : (least remaining n : ℕ) (text : List ℕ) → n ≤ remaining → n ≤ length text → ((k : ℕ) → k < n → is_space (get_or text k 0) ≡ true)
     → (kept least remaining text ≡ kept least (remaining - n) (drop n text))
     × (remaining_behind least remaining text ≡ remaining_behind least (remaining - n) (drop n text))

@@ -11,7 +11,7 @@ abbrev pub ended_text : {I : Type 0} → Parts I → List ℕ → List ℕ
 ended_text [] text = without_last_line text
 ended_text (part ∷ parts) text = text
 
--- the value of parts, if the first line loses up to `left` spaces
+-- the value of parts, if the first line loses up to `remaining` spaces
 abbrev pub value_from : {I : Type 0} → ℕ → ℕ → Parts I → Parts I
 value_from n remaining parts = unindented_parts n remaining (map (with_text (unescaped true)) (ended parts))
 

@@ -34,7 +34,7 @@ indent_of = fold indent_after_part
 abbrev pub no_indent : Indent
 no_indent = record { least = 1000000; spaces = Some 0 }
 
--- a symbol is one of the `left` spaces that the line still loses
+-- a symbol is one of the `remaining` spaces that the line still loses
 abbrev pub is_lost : ℕ → Option ℕ → Bool
 is_lost remaining symbol = is_byte 32 symbol && nat_lt 0 remaining
 

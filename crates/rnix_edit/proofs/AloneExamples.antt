@@ -43,7 +43,7 @@ list = record {
 abbrev read : Forest → Reading
 read trees = record { tree = record { kind = k.NODE_ROOT; children = trees }; faults = [] }
 
--- the name in the list is the node as which its text is parsed alone
+-- the name in the list is the node that its text gives when parsed alone
 name_in_list : IsSameNode (node_range_at k.NODE_IDENT 1 (codes "a")) list (read (over k.NODE_IDENT k.TOKEN_IDENT (codes "a") empty))
 name_in_list = record { none = refl; same = refl }
 

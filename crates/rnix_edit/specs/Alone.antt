@@ -1,4 +1,4 @@
--- A new node, compared with the node as which its text is parsed alone.
+-- A new node, compared with the node that its text gives when parsed alone.
 use Rattle.std.specs.Prelude.{◌≡◌, ℕ, ◌||◌, not, Bool, true, List, [], ◌++◌, codes, length, find, Option, Some, None, if◌then◌else◌}
 use Rattle.rnix_kinds.specs.declared.kinds.SyntaxKind.{SyntaxKind}
 use Rattle.rnix_kinds.specs.declared.kinds.SyntaxKind.TheVariants as k
@@ -58,11 +58,11 @@ pub record IsReadAlone (kind : SyntaxKind) (new : List ℕ) (so : Reading → Ty
   pub is_read : IsParsed (tokens_of (alone_text kind new)) read.tree read.faults
   pub is_so : so read
 
--- if the node with a range is an expression or an entry, it is the node as which its text is parsed alone
+-- if the node with a range is an expression or an entry, it is the node that its text gives when parsed alone
 abbrev pub IsAsAlone : List ℕ → NodeRange → Located → Type 0
 IsAsAlone new target root = is_readable target.kind new ≡ true → IsReadAlone target.kind new (IsSameNode target root)
 
--- the node with a range is an expression or an entry, but not the node as which its text is parsed alone
+-- the node with a range is an expression or an entry, but not the node that its text gives when parsed alone
 pub record IsUnlikeAlone (new : List ℕ) (target : NodeRange) (root : Located) : Type 0 where
   pub readable : is_readable target.kind new ≡ true
   pub unlike : IsReadAlone target.kind new (λ read. ¬ IsSameNode target root read)

@@ -1,4 +1,4 @@
-//! A new node, compared with the node as which its text is parsed alone.
+//! A new node, compared with the node that its text gives when parsed alone.
 
 ghost use Rattle.std.specs.Prelude.{◌≡◌, true, false, string_bytes, IfOk};
 ghost use Rattle.std.specs.Bool.{Decides};
@@ -108,7 +108,7 @@ fn is_same_node(root: &SyntaxNode<'_>, target: NodeRange, read: &Parse) -> bool
     are_same(root, target, &read.syntax(), alone_range(target))
 }
 
-// Returns whether the node at a range of a tree is the one as which its text is parsed alone, if it is an expression or an entry.
+// Returns whether the node at a range of a tree is the one that its text gives when parsed alone, if it is an expression or an entry.
 fn is_as_alone(
     alloc: Global,
     root: &SyntaxNode<'_>,
@@ -125,7 +125,7 @@ fn is_as_alone(
     Ok(is_same_node(root, target, &read))
 }
 
-/// Returns the text that an edit made, unless its new node, at a range of the new tree, differs from the node as which the new text is parsed alone.
+/// Returns the text that an edit made, unless its new node, at a range of the new tree, differs from the node that `new` gives when parsed alone.
 pub fn kept_if_alike(
     alloc: Global,
     made: String,

@@ -265,7 +265,7 @@ pub fn takes_comments(events: &mut PreorderWithTokens<'_>, count: usize) -> bool
     true
 }
 
-/// Takes two steps from a walk, for the last token and the end of a node. Returns whether there are two and the first one enters an element.
+/// Takes two steps from a walk, for the last token and the end of a node. Returns whether there are two and the first one leaves no node.
 pub fn takes_closing(events: &mut PreorderWithTokens<'_>) -> bool
     ensures { IsClosingTaken result (steps_of events.old) (steps_of events.new) }
 {

@@ -84,8 +84,8 @@ forget (token k t f) = leaf k t.text (forget f)
 forget (branch k c f) = node k (forget c) (forget f)
 forget (fault n c f) = node NODE_ERROR (forget c) (forget f)
 
--- the kind of a token's leaf: `or` as a name is a TOKEN_IDENT like other names, and `__curPos` is a TOKEN_CUR_POS where it is the
--- current position
+-- the kind of a token's leaf: `or` as a name is a TOKEN_IDENT like other names, and `__curPos` is a TOKEN_CUR_POS where it is an
+-- expression
 abbrev pub leaf_kind_as : SyntaxKind → SyntaxKind → SyntaxKind
 leaf_kind_as NODE_IDENT TOKEN_OR = TOKEN_IDENT
 leaf_kind_as NODE_IDENT TOKEN_CUR_POS = TOKEN_IDENT

@@ -131,7 +131,7 @@ impl GreenNodeBuilder {
         Ok(())
     }
 
-    /// Closes the innermost open node: its children are the trees finished since it was opened.
+    /// Closes the innermost open node: its children are the finished trees after the point at which it was opened.
     #[inline(always)]
     pub fn finish_node(&mut self) -> Result<(), AllocError>
         requires { 0 < length self.old.open_nodes }

@@ -66,7 +66,7 @@ fn joined(modes: &Modes, text: &str)
     let _top = modes.top();
 }
 
-/// Iterates over the tokens of a text. To clauses its value is the list of the remaining tokens.
+/// Iterates over the tokens of a text. In clauses its value is the list of the remaining tokens.
 #[derive(Drop)]
 pub struct Tokenizer<'a> {
     rest: &'a str,

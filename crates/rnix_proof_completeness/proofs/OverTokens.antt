@@ -22,7 +22,7 @@ over_trees (token k x f) v = over_leaf v.1 refl (over_trees f v.2)
 over_trees (branch k c f) v = over_node (over_trees c v.0) (over_trees f v.1)
 over_trees (fault n c f) v = absurd v
 
--- a forest is read without errors, and is over
+-- a forest is read without errors, and its row may end after it
 abbrev pub IsRead : SyntaxKind → ℕ → ℕ → Row → AnnotatedForest → AnnotatedForest → List Token → Type 0
 IsRead p d n q g f us = (r : Row) × Reads p d n q r g us f [] × IsOver r (end_from n (tokens_in f)) us
 
@@ -62,7 +62,7 @@ pub alike_so : (v w : Bool) → alike v w ≡ true → v ≡ w
 alike_so true w h = sym h
 alike_so false w h = sym (not_if w h)
 
--- whether the row expects an item of the kind is `w`, unless the row decides without the item
+-- `w` is whether the row expects an item of the kind; any `w` will do for a row that decides without the item
 abbrev pub stands_so : Row → Bool → SyntaxKind → Bool → Bool
 stands_so (p.Child kind · r) touches k w = true
 stands_so (p.Atom · r) touches k w = true

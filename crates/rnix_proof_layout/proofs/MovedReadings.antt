@@ -1,4 +1,4 @@
--- A reading of some items is one of the same items with other ranges, with the same errors, if the items touch alike inside paths.
+-- Some items are read in the same way with other ranges, with the same errors, if they touch alike inside paths.
 use Rattle.std.proofs.Common.{◌≡◌, ℕ, true, false, List, [], ◌∷◌, ◌++◌, Option, Some, refl, ap, sym, ◌∙◌, subst, inl, append_assoc}
 use Rattle.{rnix_kinds.specs.declared.kinds.SyntaxKind.{SyntaxKind, TheVariants.NODE_ERROR}, rnix_green.specs.Range.Extent, rnix_grammar.specs.Fault.Fault}
 use Rattle.rnix_grammar.specs.{Reports.{report, repeats}, AnnotatedForest.{Token, Note, DoubleBind, AnnotatedForest, blank, token, branch, fault, ◌⊕◌}}
@@ -66,7 +66,7 @@ touching_node prev n m c us ps h =
     subst (λ z. Touching (last_kind prev (tokens_in c)) (end_from n (tokens_in c)) (end_from m z) us (past (tokens_in c) ps)) (sym (tokens_moved c ps))
     (touching_after prev n m (tokens_in c) us ps h)
 
--- an operand is one with other ranges
+-- an operand is also one with other ranges
 operand_moved : (q : Row) (k : SyntaxKind) (c f : AnnotatedForest) (us : List Token) (ps : List Extent)
     → IsOperandOf (level_at q (one_branch k c)) (one_branch k c) (tokens_in f ++ us)
     → IsOperandOf (level_at q (one_branch k (moved_trees c ps))) (one_branch k (moved_trees c ps))

@@ -67,12 +67,12 @@ abbrev pub IsUpTo : Option ℕ → ℕ → Type 0
 IsUpTo None level = Unit {0}
 IsUpTo (Some n) level = level ≤ n
 
--- what holds of a kind if a test is true, and of an error node, holds of the kind that is begun
+-- the kind that is begun has a property if error nodes have it, and the kind has it where the test is true
 tested : (P : SyntaxKind → Type 0) (w : Bool) (k : SyntaxKind) → (w ≡ true → P k) → P NODE_ERROR → P (kind_if w k)
 tested P true k h e = h refl
 tested P false k h e = e
 
--- what holds of the kind that begins an expression, if its level is allowed, and of an error node, holds at each level
+-- the kind that begins an operand has a property if error nodes have it, and the kind that begins an expression has it where its level is allowed
 pub where_allowed : (P : SyntaxKind → Type 0) (level : ℕ) (i : SyntaxKind) (text : List ℕ) (second third : Option SyntaxKind)
     → (IsUpTo (highest i) level → P (first_kind 0 i text second third)) → Where (is_some (highest i)) (P NODE_ERROR) → P (first_kind level i text second third)
 where_allowed P level i text second third h e = subst P (sym (first_up_to level i text second third)) (by (highest i) h e)
@@ -84,7 +84,7 @@ where_allowed P level i text second third h e = subst P (sym (first_up_to level 
     by None h e = h tt
     by (Some n) h e = tested P (nat_le level n) k (λ l. h (at_most level n l)) e
 
--- what holds of each first tree by one computation over all kinds holds of the first tree of each operand
+-- a property that one computation over all kinds shows of each first tree is one of the first tree of each operand
 pub each_first_tree : (P : SyntaxKind → Option SyntaxKind → SyntaxKind → Type 0)
     → ((next : Option SyntaxKind) → EachFirst (λ i next k. P i next k × Where (is_some (highest i)) (P i next NODE_ERROR)) next)
     → (level : ℕ) (i : SyntaxKind) (text : List ℕ) (second third : Option SyntaxKind) → P i second (first_kind level i text second third)

@@ -26,7 +26,7 @@ pub record IsKept (old : Forest) (ts : List Token) (next : Machine) : Type 0 whe
   -- each item is a leaf or is still left
   pub counts : leaf_count (trees_in next.frames) + length next.remaining ≡ leaf_count old + length ts
   pub shorter : length next.remaining ≤ length ts
-  -- the first items complete the same trees, if there are no more of them than before, and fewer than are read now
+  -- the first k items complete the same trees, if at least k were read before, and more than k are read now
   pub same : (k : ℕ) → k ≤ leaf_count old → k < leaf_count (trees_in next.frames) → completed k (trees_in next.frames) ≡ completed k old
 
 -- a machine that has read more trees comes from the one before

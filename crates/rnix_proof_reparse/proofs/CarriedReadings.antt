@@ -30,7 +30,7 @@ pub data Kept (k : SyntaxKind) (c e : AnnotatedForest) : AnnotatedForest → Ann
 pub no_second : {A : Type 0} (ds : List Fault) (ts : List Token) (es : List Fault) → (ds ++ report DoubleBind ts ∷ []) ++ es ≡ [] → A
 no_second ds ts es z = absurd (not_nil (none_right ds (report DoubleBind ts ∷ []) (none_remaining (ds ++ report DoubleBind ts ∷ []) es z)))
 
--- the rule for a node that is read without errors, in a forest that is
+-- the rule for a node and the forest after it, where both are read without errors
 pub clean_node : {p j : SyntaxKind} {d n : ℕ} {q q' s : Row} {b x f : AnnotatedForest} {us : List Token} → IsRoom q d
     → Reads j (deeper q d) n (row j) s blank (tokens_in f ++ us) x [] → IsOver s (end_from n (tokens_in x)) (tokens_in f ++ us)
     → IsExpected q n (tokens_in x ++ (tokens_in f ++ us)) (is_first_expected q j x) → IsFollowed q b (head_kind (tokens_in x ++ (tokens_in f ++ us)))

@@ -32,7 +32,7 @@ none_begun q f n w = subst (IsBegun q) (sym n) (record { row = w; nodes = tt })
 pub beginning : (k : SyntaxKind) (ks : List SyntaxKind) → IsCompletable (after_all (row k) ks) → IsBeginning k ks
 beginning k ks w = record { more = w.0; is = w.1 }
 
--- the repair of an error node is one more child of its row
+-- if a forest begins the row after the repair of an error node, the repair and the forest begin the row
 begun_repair : (n : Note) (q : Row) (f : Forest) → IsBegun (after_repair n q) f → IsBegun q (repair n f)
 begun_repair Stray q f h = record { row = h.row; nodes = (record { more = []; is = refl }, tt, h.nodes) }
 begun_repair TooDeep q f h = record { row = h.row; nodes = (record { more = []; is = refl }, tt, h.nodes) }

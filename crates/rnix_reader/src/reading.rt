@@ -44,7 +44,7 @@ fn start_leaf<'t>(
     Ok(())
 }
 
-// Begins an operand that is `let {`, with `let`.
+// Begins an operand that is a legacy `let`, and adds the keyword.
 #[inline(always)]
 fn start_let(p: &mut Parser<'_>, over: Position, depth: usize) -> Result<(), AllocError>
     ensures { OnOk result (state p.new ≡ legacy_let_begun over depth (state p.old)) }
@@ -55,7 +55,7 @@ fn start_let(p: &mut Parser<'_>, over: Position, depth: usize) -> Result<(), All
     Ok(())
 }
 
-// Begins a function whose parameter is a pattern, with the name that is bound to the pattern.
+// Begins a function whose parameter is a pattern, and adds the name that is bound to the pattern.
 #[inline(always)]
 fn start_bound_lambda<'t>(
     p: &mut Parser<'t>,
@@ -77,7 +77,7 @@ fn start_bound_lambda<'t>(
     Ok(())
 }
 
-// Begins a function whose parameter is a pattern, with `{`.
+// Begins a function whose parameter is a pattern, and adds its `{`.
 #[inline(always)]
 fn start_pattern_lambda<'t>(
     p: &mut Parser<'t>,

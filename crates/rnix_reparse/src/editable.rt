@@ -30,7 +30,7 @@ pub fn editable_range(text: &str, start: TextSize, end: TextSize) -> Option<Text
     Some(TextRange::new(start, end))
 }
 
-/// Parses a text, like `Root::parse`, and says of the parse what `reparse` requires.
+/// Parses a text, like `Root::parse`; its contract promises what `reparse` requires.
 pub fn parse_text(alloc: Global, text: &str) -> Result<Parse, AllocError>
     ensures parsed { IfOk result IsParsedText }
     ensures text { IfOk result (λ read. text_of (forest_of read.tree) ≡ text.now) }

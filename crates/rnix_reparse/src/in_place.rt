@@ -15,8 +15,8 @@ use rnix::{Parse, Root, TextRange};
 use std::alloc::{AllocError, Global};
 
 /// Updates a parse to that of the text after an edit, which replaces the bytes in `range`: the result is what `reparse` returns. If a node is parsed alone and
-/// has as many elements as before, the tree is not copied: only the node's elements and the starts of those after it are written. The text is copied. A parse
-/// that is refused memory stays as it was.
+/// has as many elements as before, the tree is not copied: only the node's elements and the starts of those after it are written. The text is copied. If
+/// memory is refused, the parse stays as it was.
 pub fn reparse_in_place(
     alloc: Global,
     parse: &mut Parse,

@@ -18,7 +18,7 @@ use rnix::{Parse, Root, TextRange};
 use rnix_green::GreenNode;
 use std::alloc::{AllocError, Global};
 
-// Nodes are parsed alone only up to this part of the text: a twentieth.
+// The nodes that are parsed alone for an edit are together at most this part of the text: a twentieth.
 const PART: usize = 20;
 
 // Returns the last element that starts before an offset: it is inside each node that begins before the offset and ends after it.

@@ -17,7 +17,7 @@ no_middle : (a b c : Bool) (cut : Cut) → b ≡ false → cond (a && b && c) (S
 no_middle true b c cut e = rw e refl
 no_middle false b c cut e = refl
 
--- a run of `p` ends before the byte only if a run of `q` does, if the byte is not in `q`, and `p` does not continue after a run of `q`
+-- if `stop` is not in `q`, and the byte after a run of `q` is neither `stop` nor in `p`, the byte after a run of `p` is not `stop` either
 stops_elsewhere : (p q : ℕ → Bool) (text : List ℕ) (stop : ℕ) → q stop ≡ false → p (get_or text (prefix_len q text) 0) ≡ false
     → ¬ (get_or text (prefix_len q text) 0 ≡ stop)
     → ¬ (get_or text (prefix_len p text) 0 ≡ stop)

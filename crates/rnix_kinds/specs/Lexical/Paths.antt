@@ -59,12 +59,13 @@ relative text =
     let n = prefix_len (class_test Step) text in
     if nat_lt 0 n && goes_on_as_path n text then Some (first_segment Relative 0 text) else None
 
--- `<`, when the path characters and `<` from it on end before `>`
+-- the token of a `<` after which path characters run up to `end`: an operator if there are none, a search path if `>` comes next, or else an error
 abbrev pub search_to : ℕ → List ℕ → Cut
 search_to end text =
     if end == 1 then plain TOKEN_LESS 1
     else plain (if slice_index text end == 62 then TOKEN_PATH_SEARCH else TOKEN_ERROR) (end + 1)
 
+-- `<`, if `>` comes right after the run of path characters and `<` that it begins
 abbrev pub search_path : List ℕ → Option Cut
 search_path text =
     if slice_index text 0 == 60 && slice_index text (prefix_len (class_test Angle) text) == 62

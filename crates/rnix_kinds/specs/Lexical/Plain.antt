@@ -19,19 +19,20 @@ plain kind n = record { kind = kind; len = n; change = Stay }
 abbrev pub space : List ℕ → Option Cut
 space text = if nat_lt 0 (space_len text) then Some (plain TOKEN_WHITESPACE (space_len text)) else None
 
--- from `#` to the end of the line; from `/*` through the first `*/` after it, or an error without one
+-- from `/*` through the first `*/` after it, or an error if there is none
 abbrev pub block_comment : ℕ → List ℕ → Cut
 block_comment inside text =
     if inside == length (drop 2 text) then plain TOKEN_ERROR (length text)
     else plain TOKEN_COMMENT (inside + 4)
 
+-- from `#` to the end of the line, or a comment that begins with `/*`
 abbrev pub comment : List ℕ → Option Cut
 comment text =
     if begins (codes "#") text then Some (plain TOKEN_COMMENT (run_end (class_test Line) 0 text))
     else (if begins (codes "/*") text then Some (block_comment (before_pair 42 47 (drop 2 text)) text)
     else None)
 
--- a letter, when the path characters from it on but `/` and `_` end before `:` and a URI character
+-- a letter, if `:` and a URI character come right after the run of path characters other than `/` and `_` that it begins
 abbrev pub uri : List ℕ → Option Cut
 uri text =
     let n = prefix_len (class_test Scheme) text in

@@ -29,7 +29,7 @@ content_from multiline zero (b ∷ text) =
 abbrev pub content_len : Bool → List ℕ → ℕ
 content_len multiline = content_from multiline 0
 
--- all the rest without a closer or `${`; the content before it, if there is any; or itself
+-- if neither a closer nor `${` comes, all the rest, as an error; otherwise the content before it or, if there is none, the closer or `${`
 abbrev pub string_cut : Bool → List ℕ → Cut
 string_cut multiline text =
     let n = content_len multiline text in

@@ -9,7 +9,7 @@ use super::rule::{Change, Mode};
 use std::alloc::{AllocError, Global};
 use std::marker::Model;
 
-/// The stack of open modes. To clauses it is a list, the innermost first.
+/// The stack of open modes. In clauses it is a list, the innermost first.
 #[derive(Drop)]
 pub struct Modes {
     items: Vec<Mode>,
