@@ -4,7 +4,7 @@ use rnix::SyntaxToken;
 use rnix::ast::{AstChildren, AstNode, Expr, HasEntry, InterpolPart, PathContent};
 use std::alloc::{AllocError, Global};
 
-/// Description, each as `name=text;`, with a dash where there is nothing.
+/// The results of accessors, each as `name=text;`, with a dash for an absent one.
 #[derive(Drop)]
 pub struct Description {
     pub alloc: Global,
@@ -41,7 +41,7 @@ impl Description {
         }
     }
 
-    // Writes a text. A refusal is kept.
+    // Writes a text. If memory is refused, `finish` returns the error.
     fn write(&mut self, text: &str) {
         if let Err(error) = self.written.push_str(text) {
             self.refused = Some(error);
@@ -64,19 +64,19 @@ impl Description {
         self.write(")");
     }
 
-    /// Ends a result of several texts, of which there were any or none.
+    /// Ends a result of several texts; `any` tells whether there were any.
     pub fn end(&mut self, any: bool) {
         self.write(if any { ";" } else { "-;" });
     }
 
-    /// A text.
+    /// Writes a text.
     pub fn text(&mut self, name: &str, found: Option<&str>) {
         self.write_name(name);
         self.write(found.unwrap_or("-"));
         self.write(";");
     }
 
-    /// A token.
+    /// Writes the text of a token.
     pub fn token(&mut self, name: &str, found: Option<SyntaxToken<'_>>) {
         match found {
             Some(token) => self.text(name, Some(token.text())),
@@ -84,7 +84,7 @@ impl Description {
         }
     }
 
-    /// A node.
+    /// Writes the text of a node.
     pub fn node<'t, T: AstNode<'t>>(&mut self, name: &str, found: Option<T>) {
         match found {
             Some(node) => self.text(name, Some(node.syntax().text())),
@@ -92,12 +92,12 @@ impl Description {
         }
     }
 
-    /// An expression.
+    /// Writes the text of an expression.
     pub fn expr(&mut self, name: &str, found: Option<Expr<'_>>) {
         self.node(name, found)
     }
 
-    /// All nodes of a type.
+    /// Writes the texts of all nodes of a type.
     pub fn all<'t, T: AstNode<'t>>(&mut self, name: &str, found: AstChildren<'t, T>) {
         self.write_name(name);
         let mut any = false;
@@ -108,14 +108,14 @@ impl Description {
         self.end(any)
     }
 
-    /// The entries of a node.
+    /// Writes the entries of a node.
     pub fn entries<'t, T: HasEntry<'t>>(&mut self, node: &T) {
         self.all("entries", node.entries());
         self.all("attrpath_values", node.attrpath_values());
         self.all("inherits", node.inherits())
     }
 
-    /// The parts of a path.
+    /// Writes the parts of a path.
     pub fn parts(&mut self, found: Result<Vec<InterpolPart<'_, PathContent<'_>>>, AllocError>) {
         let parts = match found {
             Ok(parts) => parts,

@@ -1,4 +1,4 @@
-//! Typed nodes and tokens that were built by hand, as no text has them.
+//! Typed nodes and tokens that were built by hand, and that no text has.
 
 use crate::hand::node_over;
 use rnix::ast::{AstNode, AstToken, BinOp, BinOpKind, Comment, Integer};
@@ -12,7 +12,7 @@ fn operation(alloc: Global) -> Result<GreenNode, AllocError> {
     node_over(alloc, SyntaxKind::NODE_BIN_OP, &leaves)
 }
 
-// The value of a token of a number; None where there is none.
+// The value of an integer token; `None` if it has none.
 fn value_of(alloc: Global, text: &str) -> Result<Option<i64>, AllocError> {
     let leaf = (SyntaxKind::TOKEN_INTEGER, text);
     let tree = node_over(alloc, SyntaxKind::NODE_LITERAL, &[leaf])?;
@@ -43,7 +43,7 @@ fn an_operator_is_the_first_token_that_is_one(rt: HostRuntime) -> Result<(), Fai
     Ok(())
 }
 
-// Whether a comment of the text says this.
+// Whether a comment with this text has the wanted content.
 fn says(alloc: Global, text: &str, wanted: &str) -> Result<bool, Fail> {
     let leaf = (SyntaxKind::TOKEN_COMMENT, text);
     let tree = node_over(alloc, SyntaxKind::NODE_ROOT, &[leaf])?;

@@ -1,7 +1,7 @@
-//! Stored lists. A case is a line with two lengths, then a text of the first length in bytes, then what is wanted of it, of the second length, then
-//! the end of the line.
+//! Stored lists. A case is a line with two lengths, then a text of the first length in bytes, then its stored result, of the second length, then the
+//! end of the line.
 
-/// A text, and what is wanted of it.
+/// A text, and its stored result.
 #[derive(Clone, Copy)]
 pub struct Case<'a> {
     pub text: &'a str,
@@ -18,7 +18,7 @@ fn cut<'a>(list: &'a str, len: &str) -> Option<(&'a str, &'a str)> {
     list.split_at_checked(len.parse().ok()?)
 }
 
-/// The first case of a list, and the cases after it; None if there is no case.
+/// The first case of a list, and the cases after it; `None` if there is no case.
 pub fn first_case(list: &str) -> Option<(Case<'_>, &str)> {
     let (head, rest) = first_line(list)?;
     let (text_len, wanted_len) = head.split_once(' ')?;

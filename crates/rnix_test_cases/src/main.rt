@@ -1,5 +1,5 @@
-//! Replays stored cases: a line for each list with the number of its texts. Where a text prints something else than what is stored, the
-//! text and what it prints are shown, ten times at most, and the status is 1.
+//! Replays stored cases, and prints a line for each list with the number of its texts. If the result for a text is not the stored one, the text and both
+//! results are printed, at most ten times for each list, and the status is 1.
 #![tactic(auto)]
 
 mod list;
@@ -10,10 +10,10 @@ use self::printed::{List, printed};
 use std::process::ExitCode;
 use std::{fs, io};
 
-// How many differences are shown.
+// How many differences of a list are printed.
 const SHOWN: u64 = 10;
 
-// Whether a case prints what is stored; if not, it is shown.
+// Returns whether the result for a case is the stored one. If it is not, prints the case if `shows` is true.
 fn holds(rt: &HostRuntime, list: List, case: Case<'_>, shows: bool) -> io::Result<bool> {
     let found = printed(rt.alloc(), list, case.text)?;
     let wanted = list.wanted(case);
@@ -28,7 +28,7 @@ fn holds(rt: &HostRuntime, list: List, case: Case<'_>, shows: bool) -> io::Resul
     Ok(false)
 }
 
-// Replays a list: how many of its texts print something else. A list that is not read to its end has one difference more.
+// Replays a list, and returns how many of its texts have another result, plus one if a part of the list cannot be read.
 fn replay(rt: &HostRuntime, list: List) -> io::Result<u64> {
     let name = list.name();
     let stored = fs::read_to_string(rt, name)?;

@@ -1,4 +1,4 @@
-//! What the cases of each list are compared with.
+//! The lists of cases, and the results that are compared with the stored ones.
 
 use crate::list::Case;
 use rnix::ast::{AstNode, Expr, InterpolPart};
@@ -14,7 +14,7 @@ pub enum List {
     Tokens,
     Trees,
     Strings,
-    /// Trees of texts on which rnix and Nix 2.8 differ or nearly do. The first line of what is wanted says what Nix does.
+    /// Trees of texts on which rnix and Nix 2.8 differ or nearly do. The first line of a stored result says what Nix does.
     Nix,
 }
 
@@ -32,7 +32,7 @@ impl List {
         }
     }
 
-    /// The part of what is stored for a case that this library prints.
+    /// The stored result of a case, without the line about Nix.
     pub fn wanted(self, case: Case<'_>) -> &str {
         match (self, case.wanted.split_once('\n')) {
             (List::Nix, Some((_nix, tree))) => tree,
@@ -41,7 +41,7 @@ impl List {
     }
 }
 
-// One line for each token: its kind, and the bytes of its text.
+// One line for each token: its kind, and the length of its text in bytes.
 fn print_tokens(alloc: Global, text: &str, out: &mut Vec<u8>) -> io::Result<()> {
     let mut tokens = tokenize(alloc, text);
     for _byte in 0..text.len() {
@@ -63,7 +63,7 @@ fn print_tree(alloc: Global, text: &str, out: &mut Vec<u8>) -> io::Result<()> {
     }
 }
 
-// A line with what a part is and the bytes of its text, and then the text.
+// A line with the variant of a part and the length of its text in bytes, and then the text.
 fn print_part(part: &InterpolPart<'_, String>, out: &mut Vec<u8>) -> io::Result<()> {
     let (name, text) = match part {
         InterpolPart::Literal(text) => ("literal", text.as_str()),
@@ -73,7 +73,7 @@ fn print_part(part: &InterpolPart<'_, String>, out: &mut Vec<u8>) -> io::Result<
     write!(out, "{name} {len}\n{text}\n")
 }
 
-// The normalized parts of the string that a text is.
+// The normalized parts of a text that is a string.
 fn print_string(alloc: Global, text: &str, out: &mut Vec<u8>) -> io::Result<()> {
     let read = Root::parse(alloc, text)?;
     let Some(Expr::Str(string)) = read.tree().expr() else {
@@ -85,7 +85,7 @@ fn print_string(alloc: Global, text: &str, out: &mut Vec<u8>) -> io::Result<()> 
     Ok(())
 }
 
-/// What a text prints.
+/// The result for a text of a list.
 pub fn printed(alloc: Global, list: List, text: &str) -> io::Result<Vec<u8>> {
     let mut out = Vec::new(alloc);
     match list {

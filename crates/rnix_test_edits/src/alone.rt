@@ -11,7 +11,7 @@ fn is_alike(element: &SyntaxElement<'_>, other: &SyntaxElement<'_>) -> bool {
     element.kind() == other.kind() && element.text_range().len() == other.text_range().len()
 }
 
-// Returns whether two nodes have the same text, and elements alike inside, in the same order.
+// Returns whether two nodes have the same text, and inside them elements that are pairwise alike.
 fn are_alike(node: &SyntaxNode<'_>, other: &SyntaxNode<'_>) -> bool {
     let mut others = other.descendants_with_tokens();
     for element in node.descendants_with_tokens() {
@@ -23,7 +23,7 @@ fn are_alike(node: &SyntaxNode<'_>, other: &SyntaxNode<'_>) -> bool {
     others.next().is_none() && node.text() == other.text()
 }
 
-// Returns whether two texts have a node with the text `new`, and these are alike.
+// Returns whether two texts each have a node with the text `new`, and these nodes are alike.
 fn have_node(
     alloc: Global,
     text: &str,

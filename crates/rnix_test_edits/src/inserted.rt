@@ -1,4 +1,4 @@
-//! Texts with one more node.
+//! Texts into which a node is inserted.
 
 use crate::found::{node_of, shown};
 use rnix::{Root, SyntaxKind};

@@ -1,4 +1,4 @@
-//! Nodes with other texts.
+//! Texts in which a node is replaced.
 
 use crate::found::{node_of, shown};
 use rnix::{Root, SyntaxKind};

@@ -34,7 +34,7 @@ const PLACES: [&str; 24] = [
     "{%a%,%b%}%:%''\n  c ${%d%}\n''",
 ];
 
-// The longer name in place of `b`.
+// The long name in place of `b`.
 const WIDE: &str =
     "bbbbbbbbbbbbbbbbbbbbbbbbbbbbbbbbbbbbbbbbbbbbbbbbbbbbbbbbbbbbbbbbbbbbbbbbbbbbbbbb";
 
@@ -92,7 +92,7 @@ const GAPS: [&str; 50] = [
     "\n#\n\n#\n\n",
 ];
 
-// An expression with a longer name in place of `b`.
+// An expression with a long name in place of each `b`.
 fn widened(alloc: Global, text: &str) -> Result<String, AllocError> {
     let mut wide = String::new(alloc);
     for letter in text.chars() {
@@ -105,7 +105,7 @@ fn widened(alloc: Global, text: &str) -> Result<String, AllocError> {
     Ok(wide)
 }
 
-// Returns the digest of an expression with each of the comments in all gaps, and with a longer name.
+// Returns the digest of an expression with each of the comments in all gaps, each time also with the long name.
 fn digest_of(rt: &(impl Abort + AllocGlobal), place: &str) -> Result<u64, AllocError> {
     let mut digest = START;
     for gap in GAPS {

@@ -11,7 +11,7 @@ use std::test::Fail;
 // Levels of nesting before those that are compared, whose lines begin beyond column 80 or so.
 const LEVELS: usize = 37;
 
-// Expressions in which `%` stands for a name of some letters.
+// Expressions in which `%` stands for a name, whose length varies.
 const NAMED: [&str; 23] = [
     "{ a = %; }",
     "{ % = a; }",
@@ -38,7 +38,7 @@ const NAMED: [&str; 23] = [
     "{ a = { % = b; } ''\n  c\n''; }",
 ];
 
-// Expressions with parentheses of about 40 columns in which `%` stands for a name of some letters, and too wide for a line.
+// Expressions that are too wide for a line, with parentheses of about 40 columns in which `%` stands for a name, whose length varies.
 const PARENTHESES: [&str; 7] = [
     "f (a %) bbbbbbbbbbbbbbbbbbbbbbbbbbbbbbbbbbbbbbbbbbbbbbbbbbbbbbbbbbbbbb",
     "f (a: %) bbbbbbbbbbbbbbbbbbbbbbbbbbbbbbbbbbbbbbbbbbbbbbbbbbbbbbbbbbbbbb { b = c; }",
@@ -49,7 +49,7 @@ const PARENTHESES: [&str; 7] = [
     "{ a = (c: { d = %; }) { bbbbbbbbbbbbbbbbbbbbbbbbbbbbbbbbbbbbbbbbbbbbbbbbbbbbbbbbbbbbbb = e; }.f; }",
 ];
 
-// Expressions in which `%` stands for some letters of a string or a comment.
+// Expressions in which `%` stands for letters of a string or a comment, whose number varies.
 const QUOTED: [&str; 7] = [
     "{ a = \"%\"; }",
     "f \"%\" [ \"a\" ] b",
@@ -60,7 +60,7 @@ const QUOTED: [&str; 7] = [
     "f ''%\n'' (a \"%\") { } b",
 ];
 
-// Expressions in which `%` stands for another one, to be nested.
+// Expressions that are nested: `%` stands for another one.
 const NESTED: [&str; 9] = [
     "[\n%]",
     "{\na=%;}",
@@ -174,7 +174,7 @@ fn nested(alloc: Global, outer: &str, inner: &str, levels: usize) -> Result<Stri
     Ok(text)
 }
 
-// Returns the digest of an expression that is nested, at five numbers of levels.
+// Returns the digest of an expression that is nested, with five different numbers of levels.
 fn digest_of_levels(rt: &(impl Abort + AllocGlobal), outer: &str) -> Result<u64, AllocError> {
     let mut text = nested(
         rt.alloc(),

@@ -19,7 +19,7 @@ pub fn filled(alloc: Global, outer: &str, inner: &str) -> Result<String, AllocEr
     Ok(text)
 }
 
-/// Returns the text that the layout makes, unless the text has errors.
+/// Returns the text in the new layout, unless it has errors.
 pub fn styled_text(alloc: Global, text: &str) -> Result<Option<NewText>, AllocError> {
     let parse = Root::parse(alloc, text)?;
     if !parse.errors().is_empty() {
@@ -37,7 +37,7 @@ fn with_text(digest: u64, text: &str) -> u64 {
     digest.wrapping_mul(PRIME)
 }
 
-/// Adds a formatted text to a digest, unless the text has errors. It has to stay the same when it is formatted again.
+/// Adds a formatted text to a digest, unless the text has errors. Checks that it stays the same when it is formatted again.
 pub fn add_formatted(
     rt: &(impl Abort + AllocGlobal),
     text: &str,

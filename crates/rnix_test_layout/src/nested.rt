@@ -39,7 +39,7 @@ const OUTER: [&str; 29] = [
     "f\n  %\n  (x: %)\n  [ % ]",
 ];
 
-// Expressions without other ones.
+// Expressions into which none is put.
 const INNER: [&str; 13] = [
     "1",
     "\"ä\"",
@@ -56,7 +56,7 @@ const INNER: [&str; 13] = [
     "# ä\n http://a.b/c",
 ];
 
-// Returns the digest of the expressions of a kind, with each kind of expression in their places, and inside these one of the last kind.
+// Returns the digest of `outer` with each of the expressions of `OUTER` inside, and inside these the next ones of `INNER`, or `a` after the last one.
 fn digest_of(
     rt: &(impl Abort + AllocGlobal),
     outer: &str,

@@ -1,4 +1,4 @@
-//! Second handles of nodes, which no call refuses.
+//! Further handles of nodes. Making them cannot fail.
 
 use rnix::ast::{AstNode, Ident, LetIn};
 use rnix::{Root, SyntaxNode};
@@ -32,7 +32,7 @@ fn nodes_stand_in_structs_of_users(rt: HostRuntime) -> Result<(), Fail> {
     Ok(())
 }
 
-// Whether a node is an identifier or a `let`: it is cast as often as is wanted.
+// Whether a node is an identifier or a `let`. It is cast to each of them.
 fn is_of_two(node: &SyntaxNode<'_>) -> bool {
     LetIn::cast(node.clone()).is_some() || Ident::cast(node.clone()).is_some()
 }

@@ -59,7 +59,7 @@ fn pointers_find_their_nodes_in_the_tree_of_an_equal_text(rt: HostRuntime) -> Re
     Ok(())
 }
 
-// Where the functions of a tree stand.
+// Pointers to the functions of a tree.
 fn functions(
     alloc: Global,
     root: &SyntaxNode<'_>,
@@ -73,7 +73,7 @@ fn functions(
     Ok(found)
 }
 
-// How many of these functions are in a tree, each of them where its own pointer says.
+// How many of the pointers find functions in a tree to which new pointers are equal to them.
 fn count_found(functions: &HashSet<AstPtr<pointee::Lambda>>, root: &SyntaxNode<'_>) -> usize {
     let mut count: usize = 0;
     for pointer in functions {
@@ -85,7 +85,7 @@ fn count_found(functions: &HashSet<AstPtr<pointee::Lambda>>, root: &SyntaxNode<'
     count
 }
 
-// How many functions are in a text, and how many of them in another one.
+// How many functions a text has, and how many of the pointers to them find functions in another text.
 fn counts(alloc: Global, text: &str, other: &str) -> Result<(usize, usize), AllocError> {
     let (read, other) = (Root::parse(alloc, text)?, Root::parse(alloc, other)?);
     let kept = functions(alloc, &read.syntax())?;
@@ -103,14 +103,14 @@ fn pointers_keep_the_type_of_their_nodes(rt: HostRuntime) -> Result<(), Fail> {
     Ok(())
 }
 
-// Whether a pointer to a function is one to an expression as well, and to a binding.
+// Whether a pointer to a function casts to one to an expression, and to one to a `let`.
 fn casts(pointer: AstPtr<pointee::Lambda>) -> (bool, bool) {
     let expression = pointer.cast::<pointee::Expr>();
     let binding = pointer.cast::<pointee::LetIn>();
     (expression.is_some(), binding.is_some())
 }
 
-// How the pointer to the first function of a text casts.
+// What `casts` returns for a pointer to the first function of a text.
 fn first_casts(read: &Parse) -> Option<(bool, bool)> {
     for node in read.syntax().descendants() {
         if let Some(lambda) = Lambda::cast(node) {

@@ -1,4 +1,4 @@
-//! What the texts of strings stand for, and what attributes are called.
+//! The values of strings, and the names of attributes.
 
 use rnix::Root;
 use rnix::ast::{Expr, HasEntry, unescape};
@@ -18,7 +18,7 @@ fn texts_stand_for_others(rt: HostRuntime) -> Result<(), Fail> {
     Ok(())
 }
 
-// Whether the value of the string that a text is, is the wanted one.
+// Whether a text is a string with the wanted value.
 fn has_value(rt: &HostRuntime, text: &str, wanted: &str) -> Result<bool, Fail> {
     let read = Root::parse(rt.alloc(), text)?;
     let Some(Expr::Str(string)) = read.tree().expr() else {
@@ -53,7 +53,7 @@ fn values_of_strings_are_those_of_nix(rt: HostRuntime) -> Result<(), Fail> {
     Ok(())
 }
 
-// Returns what the first attribute of the set that a text is, is called.
+// Returns the name of the first attribute of a text that is a set.
 fn first_name(rt: &HostRuntime, text: &str) -> Result<Option<String>, Fail> {
     let read = Root::parse(rt.alloc(), text)?;
     let Some(Expr::AttrSet(set)) = read.tree().expr() else {

@@ -7,7 +7,7 @@ use rnix::{NodeOrToken, Parse, ParseError, Root, TextRange};
 use std::alloc::{AllocError, Global};
 use std::test::Fail;
 
-// The range of the first error of a text, if that is an unexpected token; None where the text has no errors.
+// The range of the first error of a text if it is `UnexpectedExtra`, or else an empty range; `None` if the text has no errors.
 fn extra_in(alloc: Global, text: &str) -> Result<Option<TextRange>, AllocError> {
     let read = Root::parse(alloc, text)?;
     Ok(match read.ok() {
@@ -63,7 +63,7 @@ fn a_name_is_an_expression(rt: HostRuntime) -> Result<(), Fail> {
     Ok(())
 }
 
-// The number that a text is.
+// The integer of a text that is an integer.
 fn number(read: &Parse) -> Option<Integer<'_>> {
     let Expr::Literal(literal) = read.tree().expr()? else {
         return None;
@@ -74,7 +74,7 @@ fn number(read: &Parse) -> Option<Integer<'_>> {
     }
 }
 
-// The value of the number that a text is, if it has one; None where the text is no number.
+// The value of a text that is an integer, if it has a value; `None` if the text is no integer.
 fn value_in(alloc: Global, text: &str) -> Result<Option<Option<i64>>, AllocError> {
     let read = Root::parse(alloc, text)?;
     Ok(match number(&read) {

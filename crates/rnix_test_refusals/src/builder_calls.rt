@@ -1,4 +1,4 @@
-//! A tree that is built call by call, each refused call made again.
+//! A tree that is built call by call. A call that is refused memory is made again.
 
 use crate::again::{read_again, report_refusal};
 use rnix::{Checkpoint, GreenNode, GreenNodeBuilder, SyntaxKind, SyntaxNode};
@@ -34,7 +34,7 @@ fn make(
     }
 }
 
-// Makes calls, each again where it was refused.
+// Makes calls, each a second time if memory was refused.
 fn make_again(
     rt: &impl Abort,
     builder: &mut GreenNodeBuilder,

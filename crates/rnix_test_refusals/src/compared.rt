@@ -1,11 +1,11 @@
-//! What is printed, compared as it is written, so that nothing but what is tested takes memory.
+//! Compares output as it is written, so that only the tested calls request memory.
 
 use rnix::Parse;
 use rnix_print::dump;
 use std::io;
 use std::io::Write;
 
-/// A writer that compares what it takes with what is wanted.
+/// A writer that compares what is written with the wanted bytes.
 #[derive(Drop)]
 pub(crate) struct Compared<'a> {
     rest: &'a [u8],
@@ -14,7 +14,7 @@ pub(crate) struct Compared<'a> {
 }
 
 impl<'a> Compared<'a> {
-    /// A writer of which these bytes are wanted.
+    /// A writer that expects these bytes.
     pub(crate) fn new(wanted: &'a str) -> Compared<'a> {
         Compared {
             rest: wanted.as_bytes(),
@@ -23,7 +23,7 @@ impl<'a> Compared<'a> {
         }
     }
 
-    /// Whether what is wanted was written, and nothing else.
+    /// Whether just the wanted bytes were written.
     pub(crate) fn is_whole(&self) -> bool {
         !self.differs && self.rest.is_empty()
     }
@@ -49,7 +49,7 @@ impl Write for Compared<'_> {
     }
 }
 
-/// Whether the errors of what was read, and then its tree, are the wanted ones.
+/// Whether the errors of a parse, and then its tree, print as wanted.
 pub(crate) fn prints(read: &Parse, wanted: &str) -> bool {
     let mut out = Compared::new(wanted);
     for error in read.errors() {

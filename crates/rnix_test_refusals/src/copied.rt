@@ -1,4 +1,4 @@
-//! Copies that are made again after a refusal.
+//! Copies that are made again after memory was refused.
 
 use crate::again::{read_again, report_refusal};
 use crate::compared::prints;
@@ -7,7 +7,7 @@ use rnix::Parse;
 use std::alloc::AllocError;
 use std::process::Abort;
 
-// A copy, made again where that was refused.
+// A copy of a parse, made again if memory was refused.
 fn copy_again(rt: &impl Abort, read: &Parse, refused: &mut bool) -> Result<Parse, AllocError> {
     let first = read.try_clone();
     if first.is_ok() {

@@ -1,4 +1,4 @@
-//! Texts that are read, and read again where that was refused. What they print was made by rnix 0.14.0 with the differences of
+//! Texts that are parsed, and parsed again if memory was refused. The wanted output is that of rnix 0.14.0, with the differences in
 //! DIFFERENCES.md.
 
 use crate::again::{read_again, report_refusal};
@@ -138,7 +138,7 @@ NODE_ROOT@0..2
       TOKEN_R_PAREN@1..2
 ";
 
-// Reads a text, again where that was refused: it prints as wanted.
+// Checks that a text prints as wanted. It is parsed again if memory was refused.
 fn is_read(rt: &impl Abort, alloc: Global, text: &str, wanted: &str) -> Result<(), AllocError> {
     let mut refused = false;
     let read = read_again(rt, alloc, text, &mut refused)?;
@@ -181,7 +181,7 @@ fn a_repeated_argument_is_read_again(rt: HostRuntime) -> Result<(), AllocError> 
     is_read(&rt, rt.alloc(), "{ a, a }: a", REPEATED)
 }
 
-// A run over `()`: it writes what is wanted, or nothing where it is refused memory, which is the only refusal.
+// Returns whether a run over `()` succeeds. If it does, it writes what is wanted; if not, memory was refused, and it writes nothing.
 fn is_run(rt: &impl Abort, alloc: Global) -> bool {
     let mut input = "()".as_bytes();
     let mut out = Compared::new(EMPTY_PARENTHESIS);

@@ -1,4 +1,4 @@
-//! Parts of strings and paths, and values of texts, that are asked for again after a refusal.
+//! Parts of strings and paths, and values of texts, that are requested again after memory was refused.
 
 use crate::again::{read_again, report_refusal};
 use rnix::Parse;
@@ -23,7 +23,7 @@ fn are_pieces(parts: &[InterpolPart<'_, PathContent<'_>>], wanted: &[&str]) -> b
     same && parts.len() == wanted.len()
 }
 
-// Whether the normalized parts of the string that was read are the wanted ones; None where they are refused.
+// Whether the normalized parts of a parsed string are the wanted ones; `None` if memory is refused.
 fn has_texts(alloc: Global, read: &Parse, wanted: &[&str]) -> Option<bool> {
     let Some(Expr::Str(string)) = read.tree().expr() else {
         return Some(false);
@@ -32,7 +32,7 @@ fn has_texts(alloc: Global, read: &Parse, wanted: &[&str]) -> Option<bool> {
     Some(are_texts(&parts, wanted))
 }
 
-// Whether the parts of the path that was read are the wanted ones; None where they are refused.
+// Whether the parts of a parsed path are the wanted ones; `None` if memory is refused.
 fn has_pieces(alloc: Global, read: &Parse, wanted: &[&str]) -> Option<bool> {
     let Some(Expr::PathRel(path)) = read.tree().expr() else {
         return Some(false);
@@ -69,7 +69,7 @@ fn parts_of_a_path_are_asked_for_again(rt: HostRuntime) -> Result<(), AllocError
     report_refusal(refused)
 }
 
-// Whether a text, unescaped, is the wanted one; None if memory is refused.
+// Whether a text, unescaped, is the wanted one; `None` if memory is refused.
 fn stands_for(alloc: Global, text: &str, multiline: bool, wanted: &str) -> Option<bool> {
     let value = unescape(alloc, text, multiline).ok()?;
     Some(value.as_str() == wanted)

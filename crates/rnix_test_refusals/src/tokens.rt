@@ -1,11 +1,11 @@
-//! Tokens that are asked for again after a refusal.
+//! Tokens that are requested again after memory was refused.
 
 use crate::again::report_refusal;
 use rnix::{Token, Tokenizer, tokenize};
 use std::alloc::{AllocError, Global};
 use std::process::Abort;
 
-// The next token, asked for again where it was refused, which leaves the text as it was.
+// The next token, requested again if memory was refused. A refusal leaves the rest of the text as it was.
 fn next_again<'a>(
     rt: &impl Abort,
     tokens: &mut Tokenizer<'a>,
@@ -20,7 +20,7 @@ fn next_again<'a>(
     tokens.next_token()?.ok()
 }
 
-// Two tokenizers give the same tokens of a text. Of one of them at most a growth is refused.
+// Checks that two tokenizers return the same tokens of a text. At most one of them is refused memory.
 fn are_asked_for_again(rt: &impl Abort, alloc: Global, text: &str) -> Result<(), AllocError> {
     let mut refused = false;
     let mut tokens = tokenize(alloc, text);

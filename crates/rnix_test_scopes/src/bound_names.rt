@@ -1,17 +1,17 @@
-//! The names that scopes bind, by the typed nodes.
+//! The names that scopes bind, found by accessors of typed nodes.
 
 use rnix::ast::{AstNode, Attr, AttrSet, AttrpathValue, Ident, Inherit, Lambda, Param, Pattern};
 use rnix::{SyntaxKind, SyntaxNode};
 use std::alloc::{AllocError, Global};
 
-/// A name, and the node that writes it.
+/// A name, and its node.
 #[derive(Drop)]
 pub struct Name<'t> {
     pub text: String,
     pub node: SyntaxNode<'t>,
 }
 
-/// Whether a node's names are in sight inside it.
+/// Whether the names that a node binds are in scope inside it.
 pub fn is_scope(node: &SyntaxNode<'_>) -> bool {
     match node.kind() {
         SyntaxKind::NODE_LET_IN | SyntaxKind::NODE_LEGACY_LET | SyntaxKind::NODE_LAMBDA => true,
@@ -22,7 +22,7 @@ pub fn is_scope(node: &SyntaxNode<'_>) -> bool {
     }
 }
 
-// Adds what an attribute is called, if the text alone says so.
+// Adds the name of an attribute, if the text alone determines it.
 fn add_attr<'t>(
     alloc: Global,
     attr: &Attr<'t>,
@@ -35,7 +35,7 @@ fn add_attr<'t>(
     Ok(())
 }
 
-// Adds the name that an identifier is.
+// Adds the name of an identifier.
 fn add_ident<'t>(
     alloc: Global,
     ident: Option<Ident<'t>>,
@@ -49,7 +49,7 @@ fn add_ident<'t>(
     Ok(())
 }
 
-// Adds the names of a pattern, that of the whole first.
+// Adds the names of a pattern: first the one that `@` binds, then those of the entries.
 fn add_pattern<'t>(
     alloc: Global,
     pattern: &Pattern<'t>,

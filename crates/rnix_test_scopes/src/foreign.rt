@@ -1,4 +1,4 @@
-//! White space in small texts: what is found is what Nix refuses.
+//! White space in small texts: just what Nix refuses is found.
 
 use nix_lints::foreign_spaces;
 use rnix::Root;
@@ -8,7 +8,7 @@ use std::test::Fail;
 // A text, and its runs of characters that Nix does not read as white space: the start and the end of each, and its first character.
 type Case = (&'static str, &'static [(usize, usize, char)]);
 
-// Whether these runs are found in the text, and no others.
+// Whether just these runs are found in the text.
 fn is_found(alloc: Global, case: &Case) -> Result<bool, AllocError> {
     let found = foreign_spaces(alloc, &Root::parse(alloc, case.0)?.syntax())?;
     for (space, (start, end, first)) in found.iter().zip(case.1) {

@@ -2,7 +2,7 @@
 
 use std::alloc::{AllocError, Global};
 
-// Names of one length. All but the first four have hashes that end alike.
+// Names of the same length. All but the first four have hashes with the same last bits.
 const NAMES: [&str; 16] = [
     "aaaaaaaa", "aaaaaaab", "baaaaaaa", "zzzzzzzz", "zszaaaaa", "pgifaaaa", "bjypaaaa", "tkilbaaa",
     "ofivbaaa", "dklybaaa", "ljcacaaa", "ufnjcaaa", "eayadaaa", "kpjedaaa", "fteldaaa", "ozlvdaaa",

@@ -1,4 +1,4 @@
-//! Repetitions in small texts: what is found is what Nix 2.8 refuses.
+//! Repetitions in small texts: just what Nix 2.8 refuses is found.
 
 use nix_lints::repeated_attributes;
 use rnix::Root;
@@ -8,7 +8,7 @@ use std::test::Fail;
 // A text, and for each repetition of an attribute where it begins, and where the attribute's first name does.
 type Case = (&'static str, &'static [(usize, usize)]);
 
-// Whether these repetitions are found in the text, and no others.
+// Whether just these repetitions are found in the text.
 fn is_found(alloc: Global, case: &Case) -> Result<bool, AllocError> {
     let found = repeated_attributes(alloc, &Root::parse(alloc, case.0)?.syntax())?;
     for (repeated, (start, first)) in found.iter().zip(case.1) {

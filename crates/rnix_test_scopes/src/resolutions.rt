@@ -1,4 +1,4 @@
-//! What a text's names refer to is what maps find, one for each scope.
+//! What `resolve` finds in texts is what a map for each scope finds.
 
 use crate::made_texts::made_text;
 use crate::scope_maps::resolve_by_maps;
@@ -7,7 +7,7 @@ use rnix::{Root, SyntaxNode, SyntaxNodePtr};
 use std::alloc::{AllocError, Global};
 use std::test::Fail;
 
-// Whether two nodes of a tree are one.
+// Whether two nodes of a tree are the same one.
 fn is_same_node(node: &SyntaxNode<'_>, other: &SyntaxNode<'_>) -> bool {
     SyntaxNodePtr::new(node) == SyntaxNodePtr::new(other)
 }
@@ -55,7 +55,7 @@ fn found_alike(alloc: Global, root: &SyntaxNode<'_>) -> Result<Option<(usize, us
     Ok(is_alike.then_some((bindings.len(), references.len())))
 }
 
-// The node of a text inside which the maps find something else, if there is one.
+// The number of the first node inside which the maps find something else, if there is one.
 fn unlike_node(alloc: Global, text: &str) -> Result<Option<usize>, AllocError> {
     let read = Root::parse(alloc, text)?;
     for (number, node) in read.syntax().descendants().enumerate() {
@@ -66,8 +66,8 @@ fn unlike_node(alloc: Global, text: &str) -> Result<Option<usize>, AllocError> {
     Ok(None)
 }
 
-// Scopes in scopes and after them, some of which end at one place, bodies of `with`, what is inherited, names that are bound in parts or
-// twice, and texts with errors.
+// Scopes in scopes and after each other, scopes with the same end, bodies of `with`, inherited names, names that are bound in parts or twice, and texts
+// with errors.
 const TEXTS: [&str; 28] = [
     "",
     "let x = 1; in let x = 2; y = x; in x + y",

@@ -42,7 +42,7 @@ fn is_expression(node: &SyntaxNode<'_>) -> bool {
     node.kind() == SyntaxKind::NODE_IDENT && is_value
 }
 
-// What is around a place: of each scope, the innermost last, the numbers of its bindings by their names; and the bodies of `with`.
+// What is around a place: for each scope, the innermost last, the numbers of its bindings by name; and the bodies of `with`.
 #[derive(Drop)]
 struct Environment<'t> {
     scopes: Vec<HashMap<String, usize>>,
@@ -103,7 +103,7 @@ fn innermost(scopes: &[HashMap<String, usize>], text: &String) -> Option<usize> 
 }
 
 impl<'t> Environment<'t> {
-    // Enters a node, whose names are bound, if it is a scope.
+    // Enters a node. If it is a scope, its names are bound.
     fn enter(
         &mut self,
         alloc: Global,
@@ -160,7 +160,7 @@ fn outer_depth(around: &Environment<'_>, inherit: &SyntaxNode<'_>) -> usize {
     }
 }
 
-// Adds the names that are inherited from around the `let` or the set.
+// Adds the names that an `inherit` takes from around its `let` or set.
 fn add_all_inherited<'t>(
     alloc: Global,
     around: &Environment<'t>,
@@ -180,7 +180,7 @@ fn add_all_inherited<'t>(
     Ok(())
 }
 
-// Adds the references that a node is or has.
+// Adds the reference that a node is, or the references of an `inherit`.
 fn add_references<'t>(
     alloc: Global,
     around: &Environment<'t>,

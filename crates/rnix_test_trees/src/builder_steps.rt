@@ -17,7 +17,7 @@ pub enum Step<'a> {
     Finish,
 }
 
-// Takes a step. Where no node is open, none ends.
+// Takes a step. `Finish` does nothing if no node is open.
 fn take(builder: &mut GreenNodeBuilder, step: Step<'_>) -> Result<(), AllocError> {
     match step {
         Step::Start(kind) => builder.start_node(kind),
@@ -28,7 +28,7 @@ fn take(builder: &mut GreenNodeBuilder, step: Step<'_>) -> Result<(), AllocError
     }
 }
 
-/// The tree that the steps make. Steps that make none are refused.
+/// The tree that the steps build, or an error if they do not complete one.
 pub fn built(alloc: Global, steps: &[Step<'_>]) -> Result<GreenNode, AllocError> {
     let mut builder = GreenNodeBuilder::new(alloc);
     for step in steps {

@@ -39,7 +39,7 @@ fn tokens_are_found_past_empty_nodes(rt: HostRuntime) -> Result<(), Fail> {
     Ok(())
 }
 
-// How many children of a kind the lists and the names are: nodes alone, and nodes and tokens.
+// The numbers of children of a kind: of lists and roots among the nodes, and of names among nodes and tokens.
 fn count_by_kind(root: &SyntaxNode<'_>) -> [usize; 3] {
     let names = root.children_with_tokens();
     [

@@ -48,7 +48,7 @@ impl Read for Input<'_> {
     }
 }
 
-/// A writer that fails at the write with a number, from 0 on: with an error of a kind, or, where there is none, by taking nothing.
+/// A writer that fails at the write with a number, from 0 on: with an error of a kind, or, if there is no kind, by accepting no byte.
 #[derive(Drop)]
 pub(crate) struct Output {
     /// What was written.
@@ -60,7 +60,7 @@ pub(crate) struct Output {
 }
 
 impl Output {
-    /// A writer that has taken nothing.
+    /// A writer to which nothing has been written.
     pub(crate) fn new(alloc: Global, fails_at: u64, kind: Option<ErrorKind>) -> Output {
         Output {
             bytes: Vec::new(alloc),
@@ -70,7 +70,7 @@ impl Output {
         }
     }
 
-    /// Whether the write that failed was the last one, and what was written before it is the first part of what is wanted.
+    /// Whether the write that failed was the last one, and the bytes written before it are the first of the wanted ones.
     pub(crate) fn stopped(&self, wanted: &[u8]) -> bool {
         self.writes == self.fails_at.saturating_add(1) && wanted.starts_with(self.bytes.as_slice())
     }

@@ -13,7 +13,7 @@ fn hash_of(node: &SyntaxNode<'_>) -> u64 {
     state.finish()
 }
 
-// Whether two roots are equal, with their hashes and their first tokens, and the last token is another one.
+// Whether two roots, their hashes and their first tokens are equal, and the first token is not equal to the last one.
 fn are_equal(a: &SyntaxNode<'_>, b: &SyntaxNode<'_>) -> bool {
     a == b
         && hash_of(a) == hash_of(b)
@@ -29,7 +29,7 @@ fn two_readings_of_a_text_are_equal(rt: HostRuntime) -> Result<(), Fail> {
     Ok(())
 }
 
-// Whether the first nodes below two roots have one text, and are not equal.
+// Whether the first nodes below two roots have the same text, and are not equal.
 fn differ(a: &SyntaxNode<'_>, b: &SyntaxNode<'_>) -> Option<bool> {
     let (a, b) = (a.first_child()?, b.first_child()?);
     Some(a.text() == b.text() && a != b)

@@ -35,7 +35,7 @@ fn holds_only(set: TokenSet, names: &[&str]) -> bool {
     true
 }
 
-// The kind of a number, if it is the one that has the name.
+// The kind with a number, if it has this name.
 fn numbered(number: usize, name: &str) -> Option<SyntaxKind> {
     let kind = SyntaxKind::from_raw(u16::try_from(number).ok()?)?;
     if kind.name() == name && name.parse() == Ok(kind) {
@@ -56,7 +56,7 @@ fn kinds_have_numbers_and_names(rt: HostRuntime) {
     assert!(rt; SyntaxKind::from_raw(93).is_none());
 }
 
-// What is said of a text that is no kind.
+// The message about a text that is not the name of a kind.
 fn refusal(alloc: Global, text: &str) -> Result<Option<String>, AllocError> {
     match text.parse::<SyntaxKind>() {
         Ok(_kind) => Ok(None),

@@ -26,7 +26,7 @@ fn to_last(root: &SyntaxNode<'_>) -> Option<SyntaxNodePtr> {
     Some(SyntaxNodePtr::new(&root.last_child()?))
 }
 
-// Where each node of a tree is in preorder, by its pointer.
+// The index in preorder of each node of a tree, by its pointer.
 fn numbers(
     alloc: Global,
     root: &SyntaxNode<'_>,
@@ -38,7 +38,7 @@ fn numbers(
     Ok(numbers)
 }
 
-// The number of the last list, found by its pointer, if all nodes have numbers of their own.
+// The index of the last list, found by its pointer, if the pointers to the three nodes differ.
 fn last_number(alloc: Global, root: &SyntaxNode<'_>) -> Result<Option<usize>, AllocError> {
     let numbers = numbers(alloc, root)?;
     Ok(match to_last(root) {
@@ -54,7 +54,7 @@ fn pointers_are_keys(rt: HostRuntime) -> Result<(), Fail> {
     Ok(())
 }
 
-// The pointer to the last list of a tree that is there no more.
+// A pointer to the last list of a tree that no longer exists.
 fn outliving(alloc: Global) -> Result<Option<SyntaxNodePtr>, AllocError> {
     let tree = lists(alloc, "a")?;
     Ok(to_last(&SyntaxNode::new_root(&tree)))

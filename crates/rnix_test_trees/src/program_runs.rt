@@ -5,7 +5,7 @@ use rnix_print::{RunError, message, run, status};
 use std::alloc::Global;
 use std::io::ErrorKind;
 
-// Whether a run over a reader with an interrupt before each byte is refused as one that is not UTF-8, and writes nothing.
+// Whether a run over a reader that is interrupted before each byte returns `NotUtf8` and writes nothing.
 fn is_no_text(alloc: Global, bytes: &[u8]) -> bool {
     let mut input = Input::new(bytes, NEVER, ErrorKind::Other, true);
     let mut out = Output::new(alloc, NEVER, None);

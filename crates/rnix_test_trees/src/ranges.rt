@@ -25,7 +25,7 @@ fn last_behind<'t>(names: &[Name<'t>], offset: usize) -> Option<Name<'t>> {
     last
 }
 
-// The text of a name that is there.
+// The text of a name, if it has this range.
 fn text_there<'t>(name: Option<Name<'t>>, range: TextRange) -> Option<&'t str> {
     let name = name?;
     if name.range == range {
@@ -50,7 +50,7 @@ fn ranges_stand_beside_references(rt: HostRuntime) {
     assert!(rt; text_there(last_behind(&names, 2), b) == Some("b"));
 }
 
-// The text that is kept of a range, of `ab` and an empty one after it.
+// The text for a range in a map that has the range of `ab` and the empty range after it.
 fn kept(alloc: Global, range: TextRange) -> Result<Option<&'static str>, AllocError> {
     let mut texts = HashMap::new(alloc);
     texts.insert(TextRange::up_to(2), "ab")?;
@@ -65,7 +65,7 @@ fn ranges_are_keys(rt: HostRuntime) -> Result<(), Fail> {
     Ok(())
 }
 
-// Whether the ranges from 1 to 4 and from 3 to 6 meet as they should, and touch the one from 4 to 6.
+// Whether the intersections, covers and orderings of the ranges from 1 to 4, from 3 to 6 and from 4 to 6 are right.
 fn meet(left: TextRange, right: TextRange) -> bool {
     let touched = TextRange::new(4, 6);
     left.intersect(right) == Some(TextRange::new(3, 4))
@@ -77,7 +77,7 @@ fn meet(left: TextRange, right: TextRange) -> bool {
         && left.ordering(touched) == Ordering::Less
 }
 
-// Whether the left one is moved to the right one, and not before the start of the text.
+// Whether the left range can be moved to the right one, but not to before the start of the text.
 fn are_moved(left: TextRange, right: TextRange) -> bool {
     left.checked_sub(2) == None && left.checked_add(2) == Some(right) && Range::from(left) == (1..4)
 }

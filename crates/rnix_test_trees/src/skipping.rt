@@ -86,8 +86,8 @@ fn what_two_walks_have_otherwise_is_not_passed(rt: HostRuntime) -> Result<(), Fa
     Ok(())
 }
 
-// Two walks after they enter the lists in two roots, the second one of a longer text: what passing the siblings before two offsets returns, and how
-// many events the first one has passed and the second one has left.
+// Two walks after they enter the lists in two roots, the second one of a longer text: what passing the siblings before two offsets returns, how many
+// events the first one has passed, and whether the second one has passed as many.
 fn passed_in_lists(
     rt: &HostRuntime,
     before: usize,

@@ -5,7 +5,7 @@ use rnix_green::GreenNode;
 use std::alloc::{AllocError, Global};
 use std::test::Fail;
 
-// The tree of `text` with the only node of `part` in place of the node of a number; `None` if there are no such nodes.
+// The tree of `text` with the only node of `part` in place of the node with a number; `None` if there are no such nodes.
 fn spliced(
     alloc: Global,
     text: &str,
@@ -20,7 +20,7 @@ fn spliced(
     Ok(None)
 }
 
-// Whether that is the tree of another text.
+// Whether the spliced tree is that of the text `wanted`.
 fn is_spliced(
     alloc: Global,
     text: &str,

@@ -65,10 +65,10 @@ fn positions_lead_back(rt: HostRuntime) -> Result<(), Fail> {
     Ok(())
 }
 
-// A range, its new text, and whether the edit is refused.
+// A range, its new text, and the error with which the edit is refused, if it is.
 type Case = (Range<usize>, &'static str, Option<EditError>);
 
-// The text with edits, if each of them is refused as it should be.
+// The text with edits, if each of them is accepted or refused as it should be.
 fn edited(alloc: Global, text: &str, cases: &[Case]) -> Result<Option<String>, AllocError> {
     let mut edits = Edits::new(alloc, text);
     for (range, new, wanted) in cases {

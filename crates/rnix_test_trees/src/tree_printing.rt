@@ -6,7 +6,7 @@ use rnix_tree::{GreenNode, SyntaxNode, dump};
 use std::alloc::{AllocError, Global};
 use std::test::Fail;
 
-// A ROOT over a string in quotes, whose text is the name.
+// A ROOT over a string in quotes with the content `text`.
 fn quoted(alloc: Global, text: &str) -> Result<GreenNode, AllocError> {
     let steps = [
         Step::Start(SyntaxKind::NODE_ROOT),
@@ -20,7 +20,7 @@ fn quoted(alloc: Global, text: &str) -> Result<GreenNode, AllocError> {
     built(alloc, &steps)
 }
 
-// What is printed of a node, without its inside and with it.
+// What is printed of a node, without its descendants and with them.
 fn shown(alloc: Global, node: &SyntaxNode<'_>) -> Result<String, AllocError> {
     format!(in alloc; "{node:?}\n{node:#?}")
 }

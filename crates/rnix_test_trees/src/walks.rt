@@ -10,7 +10,7 @@ use std::test::Fail;
 // A sum of a number and a product.
 const SUM: &str = "1 + 2 * 3";
 
-// How many steps each walk over a node has.
+// The number of items of each iterator over a node.
 fn counts(root: &SyntaxNode<'_>) -> [usize; 5] {
     [
         root.descendants().count(),
@@ -107,7 +107,7 @@ fn siblings_of_literals(rt: HostRuntime) -> Result<(), Fail> {
     Ok(())
 }
 
-// Whether the children at both ends of the product are found, and the one token at its start that is inside it.
+// Whether the children at both ends of the product are found, and at its start only the token that is inside it.
 fn has_both_ends(root: &SyntaxNode<'_>) -> Option<bool> {
     let product = root.first_child()?.last_child()?;
     Some(

@@ -38,7 +38,7 @@ fn nested(alloc: Global, names: &[&str]) -> Result<Data, AllocError> {
     Ok(Data { items })
 }
 
-// Whether a path leads to the number in such sets.
+// Whether a path leads to the number in the nested sets of these names.
 fn leads_to_number(alloc: Global, names: &[&str], path: &str) -> Result<bool, AllocError> {
     Ok(match nested(alloc, names)?.part(alloc, path)? {
         Some(part) => matches!(
@@ -92,7 +92,7 @@ fn a_quote_must_be_closed_before_a_dot_or_the_end(rt: HostRuntime) -> Result<(),
     Ok(())
 }
 
-// A list of null and a number.
+// A list with null and a number.
 fn list(alloc: Global) -> Result<Data, AllocError> {
     let mut items = Vec::new(alloc);
     push(alloc, &mut items, 0, "", Value::List)?;

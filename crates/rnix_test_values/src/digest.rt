@@ -1,5 +1,5 @@
-//! Digests of results: FNV-1a, with a byte 0 after each text. Those that the tests store were also made by a second implementation: character by
-//! character, with ordered maps.
+//! Digests of results: FNV-1a, with a byte 0 after each text. A second implementation, which reads character by character and has ordered maps, made the same
+//! digests as those that the tests store.
 
 use nix_values::{Data, JsonError, Value, data_of_json, json_of};
 use std::alloc::{AllocError, Global};
@@ -9,12 +9,12 @@ pub const START: u64 = 0xcbf2_9ce4_8422_2325;
 // The factor of FNV-1a.
 const PRIME: u64 = 0x100_0000_01b3;
 
-/// Returns a digest with a number.
+/// Returns a digest to which a number is added.
 pub fn with_number(digest: u64, number: u64) -> u64 {
     (digest ^ number).wrapping_mul(PRIME)
 }
 
-/// Returns a digest with a text.
+/// Returns a digest to which a text is added.
 pub fn with_text(digest: u64, text: &str) -> u64 {
     let mut digest = digest;
     for byte in text.bytes() {
@@ -23,7 +23,7 @@ pub fn with_text(digest: u64, text: &str) -> u64 {
     with_number(digest, 0)
 }
 
-/// Returns a digest with a text that was written, or refused.
+/// Returns a digest to which a written text is added, or that there is none.
 pub fn with_written(digest: u64, written: &Option<String>) -> u64 {
     match written {
         Some(text) => with_text(digest, text.as_str()),
@@ -31,7 +31,7 @@ pub fn with_written(digest: u64, written: &Option<String>) -> u64 {
     }
 }
 
-// Returns a digest with a value.
+// Returns a digest to which a value is added.
 fn with_value(digest: u64, value: &Value) -> u64 {
     match value {
         Value::Null => with_number(digest, 1),
@@ -47,7 +47,7 @@ fn with_value(digest: u64, value: &Value) -> u64 {
     }
 }
 
-/// Returns a digest with data.
+/// Returns a digest to which data are added.
 pub fn with_data(digest: u64, data: &Data) -> u64 {
     let mut digest = digest;
     for item in &data.items {
@@ -58,7 +58,7 @@ pub fn with_data(digest: u64, data: &Data) -> u64 {
     digest
 }
 
-// Returns a digest with a refusal: its reason, its place, and that of the first of two names.
+// Returns a digest to which an error is added: its reason, its offset, and that of the first of two equal names.
 fn with_error(digest: u64, error: &JsonError) -> u64 {
     let digest = with_text(digest, error.reason.text());
     let digest = with_number(digest, error.offset as u64);
@@ -68,7 +68,7 @@ fn with_error(digest: u64, error: &JsonError) -> u64 {
     }
 }
 
-/// Returns a digest with what a JSON text is read as: its data, and these as JSON; or a refusal.
+/// Returns a digest to which the data of a JSON text and these data as JSON are added, or the error if it has no data.
 pub fn with_json(alloc: Global, digest: u64, text: &str) -> Result<u64, AllocError> {
     Ok(match data_of_json(alloc, text)? {
         Ok(data) => with_written(with_data(digest, &data), &json_of(alloc, &data)?),

@@ -1,4 +1,4 @@
-//! JSON objects with few and many names, which are repeated or not: what they are read as, or which name is the first that an object has twice.
+//! JSON objects with few and many names, which are repeated or not: the data that are read, or the first name that an object has twice.
 
 use crate::digest::{START, with_json};
 use std::alloc::{AllocError, Global};

@@ -1,4 +1,4 @@
-//! JSON texts of all pieces, alone and in one another: what they are read as, or which error is reported where.
+//! JSON texts of all pieces, alone and in one another: the data that are read, or the error that is reported and where.
 
 use crate::digest::{START, with_json};
 use std::alloc::{AllocError, Global};
@@ -7,7 +7,7 @@ use std::test::Fail;
 // How many pieces there are.
 const COUNT: usize = 32;
 
-// The first half of them are combined in longer sequences.
+// The pieces. The first half of them are also combined in longer sequences.
 const PIECES: [&str; COUNT] = [
     "{",
     "}",

@@ -12,7 +12,7 @@ pub fn item(alloc: Global, depth: usize, name: &str, value: Value) -> Result<Ite
     })
 }
 
-/// Returns a float of these digits, or else a text.
+/// Returns a float with these digits if `is_float` is true, otherwise a text.
 pub fn word(alloc: Global, is_float: bool, word: &str) -> Result<Value, AllocError> {
     let word = String::from_str(alloc, word)?;
     Ok(if is_float {
@@ -22,7 +22,7 @@ pub fn word(alloc: Global, is_float: bool, word: &str) -> Result<Value, AllocErr
     })
 }
 
-/// Returns data of two values with names, inside a value.
+/// Returns data of a value and two named values after it, with the given depths.
 pub fn pair(
     alloc: Global,
     around: Value,
@@ -37,7 +37,7 @@ pub fn pair(
     Ok(Data { items })
 }
 
-/// Returns lists in one another.
+/// Returns `levels` lists in one another.
 pub fn nested(alloc: Global, levels: usize) -> Result<Data, AllocError> {
     let mut items = Vec::new(alloc);
     for depth in 0..levels {
@@ -53,7 +53,7 @@ pub fn text_alone(alloc: Global, text: &str) -> Result<Data, AllocError> {
     Ok(Data { items })
 }
 
-/// Texts and digits of floats, and what neither JSON nor Nix has as such.
+/// Texts and digits of floats, also such as are floats neither in JSON nor in Nix.
 pub const WORDS: [&str; 34] = [
     "",
     "0",
