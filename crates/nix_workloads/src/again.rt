@@ -33,7 +33,7 @@ fn parse_after(
     Ok(made)
 }
 
-// Edits a text. An edit that leaves errors is taken back.
+// Edits a text. An edit that leaves errors is undone.
 fn edit_again(
     alloc: Global,
     words: &Words,
@@ -52,7 +52,7 @@ fn edit_again(
     Ok(())
 }
 
-/// Makes small edits of so many texts, with the results of `anew`.
+/// Makes small edits of `size` texts. The results are those of `anew`.
 pub fn again(
     alloc: Global,
     words: &Words,

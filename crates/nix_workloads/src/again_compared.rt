@@ -19,7 +19,7 @@ use std::io;
 // How many edits are made of each text.
 const EDITS: usize = 20;
 
-// How many edits were made, how many of these of texts without errors, and how many texts after edits have none; and the differences.
+// The numbers of edits, of edits of texts without errors, of edits that make such texts, and of differences.
 #[derive(Clone, Copy)]
 struct Counts {
     edits: u64,
@@ -36,7 +36,7 @@ fn is_same(one: &Parse, other: &Parse) -> bool {
     one.green().is_same(other.green()) && first.sum() == second.sum()
 }
 
-// Returns a random edit of a text. Of eight edits, three remove nothing, three one byte, and two up to 7 or 59; six of eight insert one or two pieces.
+// Returns a random edit of a text. Of eight edits, three remove nothing, three one byte, one up to 7 and one up to 59; six insert one or two pieces.
 fn random_edit(text: &str, numbers: &mut Numbers) -> (usize, usize, &'static str, &'static str) {
     let start = numbers.below(text.len().saturating_add(1));
     let removed = match numbers.below(8) {

@@ -71,7 +71,7 @@ pub fn written(numbers: &mut Numbers) -> &'static str {
     WRITTEN[numbers.below(48) % 48]
 }
 
-// Returns the offset of the letter `E` that comes after so many others, or of the last one.
+// Returns the offset of the letter `E` that follows `number` others, or of the last one.
 fn place_of(text: &[u8], number: usize) -> Option<usize> {
     let (mut left, mut found) = (number, None);
     for offset in 0..text.len() {
@@ -86,7 +86,7 @@ fn place_of(text: &[u8], number: usize) -> Option<usize> {
     found
 }
 
-// Puts a rule in the place of an expression. A text without expressions stays as it is.
+// Replaces an expression by a rule. A text without expressions stays as it is.
 fn grown(alloc: Global, text: String, numbers: &mut Numbers) -> Result<String, AllocError> {
     let Some(offset) = place_of(text.as_bytes(), numbers.below(6)) else {
         return Ok(text);

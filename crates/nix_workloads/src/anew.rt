@@ -29,7 +29,7 @@ pub fn text_after(
     }
 }
 
-// Edits a text. An edit that leaves errors is taken back.
+// Edits a text. An edit that leaves errors is undone.
 fn edit_anew(
     alloc: Global,
     words: &Words,
@@ -52,7 +52,7 @@ fn edit_anew(
     Ok(())
 }
 
-/// Makes small edits of so many texts.
+/// Makes small edits of `size` texts.
 pub fn anew(
     alloc: Global,
     words: &Words,

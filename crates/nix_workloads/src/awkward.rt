@@ -15,7 +15,7 @@ use rnix_text::Edits;
 use std::alloc::{AllocError, Global};
 use std::io;
 
-// A text that begins with one template, has another one again and again, and ends with a third one.
+// A text of one template, `times` times a second one, and a third one.
 fn repeated(
     alloc: Global,
     words: &Words,
@@ -51,7 +51,7 @@ const ROWS: [([&str; 3], usize); 9] = [
 // How many functions are in one another at most: less than the 512 levels that the parser reads.
 const MOST_FUNCTIONS: usize = 480;
 
-// Names of the outermost of functions in functions and of none of them, all used in the innermost one.
+// Functions in functions. The innermost one uses the name of the outermost one, and names that none of them binds.
 fn scopes(alloc: Global, words: &Words, seed: u64, uses: usize) -> Result<String, AllocError> {
     let mut draft = Draft::new(alloc, words, seed);
     let (function, names) = ("%a%%: ", "  outer\n  %a\n");
@@ -64,7 +64,7 @@ fn scopes(alloc: Global, words: &Words, seed: u64, uses: usize) -> Result<String
     Ok(draft.into_text())
 }
 
-// A set of names that differ in their last letters alone, as Nix.
+// A Nix set whose names are long and differ only at the end.
 fn alike(alloc: Global, words: &Words, seed: u64, names: usize) -> Result<String, AllocError> {
     let mut draft = Draft::new(alloc, words, seed);
     draft.push("{\n")?;
@@ -86,7 +86,7 @@ fn add_data(alloc: Global, text: &str, digest: &mut Digest) -> Result<(), AllocE
     Ok(())
 }
 
-// Replaces each line but the last by an edit, the last line first.
+// Empties each line but the first, each by an edit, from the last line on.
 fn edit_backwards(alloc: Global, text: &str, digest: &mut Digest) -> Result<(), AllocError> {
     let mut edits = Edits::new(alloc, text);
     let mut end = text.len();
@@ -101,7 +101,7 @@ fn edit_backwards(alloc: Global, text: &str, digest: &mut Digest) -> Result<(), 
     Ok(())
 }
 
-// Adds what covers ranges of a text.
+// Adds the elements that cover random ranges of a text.
 fn add_covers(alloc: Global, text: &str, seed: u64, digest: &mut Digest) -> Result<(), AllocError> {
     let read = Root::parse(alloc, text)?;
     add_parse(&read, digest);
@@ -117,7 +117,7 @@ fn add_covers(alloc: Global, text: &str, seed: u64, digest: &mut Digest) -> Resu
     Ok(())
 }
 
-// Reads texts that end as they begin, with rows of templates between.
+// Checks a text for each row of templates.
 fn check_rows(
     alloc: Global,
     words: &Words,
@@ -132,7 +132,7 @@ fn check_rows(
     Ok(())
 }
 
-/// Reads texts of each shape, with repetitions by the size.
+/// Reads texts of each shape. The numbers of repetitions grow with `size`.
 pub fn awkward(
     alloc: Global,
     words: &Words,

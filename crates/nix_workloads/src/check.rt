@@ -68,7 +68,7 @@ pub fn add_names(alloc: Global, read: &Parse, digest: &mut Digest) -> Result<(),
     Ok(())
 }
 
-/// Adds a formatted text, and whether it differs.
+/// Adds a formatted text, and whether it is the same as the old one.
 pub fn add_formatted(alloc: Global, text: &str, digest: &mut Digest) -> Result<(), AllocError> {
     match formatted(alloc, text)? {
         Formatting::Formatted(made) => {
@@ -90,7 +90,7 @@ pub fn check_text(alloc: Global, text: &str, digest: &mut Digest) -> Result<(), 
     add_names(alloc, &read, digest)
 }
 
-/// Checks so many files, a list of all packages, and a generated set.
+/// Checks `size` files, a list of all packages, and a generated set.
 pub fn check(
     alloc: Global,
     words: &Words,

@@ -71,7 +71,7 @@ fn from_json(alloc: Global, text: &str, digest: &mut Digest) -> Result<(), Alloc
     from_nix(alloc, nix.as_str(), digest)
 }
 
-/// Converts so many texts of each kind.
+/// Converts `size` texts of each kind.
 pub fn convert(
     alloc: Global,
     words: &Words,

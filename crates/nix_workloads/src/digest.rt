@@ -42,7 +42,7 @@ impl Digest {
         self.count = self.count.wrapping_add(1);
     }
 
-    /// Adds bytes and their number. It stays a call of its own, so that profiles show what digests cost.
+    /// Adds bytes and their number. It is never inlined, so that profiles show what digests cost.
     #[inline(never)]
     pub fn add_bytes(&mut self, bytes: &[u8]) {
         let (words, rest) = bytes.as_chunks::<8>();

@@ -15,7 +15,7 @@ pub struct Draft<'w> {
 }
 
 impl<'w> Draft<'w> {
-    /// An empty text, whose words and numbers are those of a seed.
+    /// An empty text, whose words and numbers a seed will determine.
     pub fn new(alloc: Global, words: &'w Words, seed: u64) -> Draft<'w> {
         Draft {
             words,
@@ -35,7 +35,7 @@ impl<'w> Draft<'w> {
         }
     }
 
-    // Adds what a sign stands for, by the number of this use of the template.
+    // Adds what a sign stands for in the use of a template with the number `base`.
     fn push_sign(&mut self, sign: Sign, base: u64) -> Result<(), AllocError> {
         match sign {
             Sign::Word(letter) => {
@@ -50,7 +50,7 @@ impl<'w> Draft<'w> {
         }
     }
 
-    /// Adds a template whose words and numbers are those of a number.
+    /// Adds a template whose words and numbers `base` determines.
     pub fn fill_by(&mut self, template: &Template, base: u64) -> Result<(), AllocError> {
         for part in template.parts() {
             self.text.push_str(part.text)?;
@@ -66,7 +66,7 @@ impl<'w> Draft<'w> {
         self.fill_by(template, base)
     }
 
-    /// Adds one of some templates, by chance.
+    /// Adds one of some templates, chosen at random.
     pub fn fill_one(&mut self, templates: &[Template]) -> Result<(), AllocError> {
         let at = self.numbers.below(templates.len());
         match templates.get(at) {
@@ -75,7 +75,7 @@ impl<'w> Draft<'w> {
         }
     }
 
-    /// Adds a template again and again.
+    /// Adds a template `times` times.
     pub fn repeat(&mut self, template: &Template, times: usize) -> Result<(), AllocError> {
         for _turn in 0..times {
             self.fill(template)?;
@@ -88,7 +88,7 @@ impl<'w> Draft<'w> {
         self.text.push_str(text)
     }
 
-    /// The numbers that are left.
+    /// The generator of its random numbers.
     pub fn numbers(&mut self) -> &mut Numbers {
         &mut self.numbers
     }

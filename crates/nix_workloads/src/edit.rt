@@ -32,7 +32,7 @@ fn rename(alloc: Global, text: &str, number: usize, digest: &mut Digest) -> Resu
     Ok(())
 }
 
-// Returns where the identifiers of a tree stand.
+// Returns the ranges of the identifiers of a tree.
 fn identifiers(alloc: Global, root: &SyntaxNode<'_>) -> Result<Vec<TextRange>, AllocError> {
     let mut places = Vec::new(alloc);
     for node in root.descendants() {
@@ -43,7 +43,7 @@ fn identifiers(alloc: Global, root: &SyntaxNode<'_>) -> Result<Vec<TextRange>, A
     Ok(places)
 }
 
-// Replaces each identifier of a text, with the edits in an order without a pattern.
+// Replaces each identifier of a text, with the edits in random order.
 fn replace_shuffled(
     alloc: Global,
     text: &str,
@@ -67,7 +67,7 @@ fn replace_shuffled(
     Ok(())
 }
 
-// Returns the entry of a number, and its value.
+// Returns the entry with a number.
 fn entry_at<'t>(root: &SyntaxNode<'t>, number: usize) -> Option<AttrpathValue<'t>> {
     let mut left = number;
     for node in root.descendants() {
@@ -100,7 +100,7 @@ fn add_edited(edited: Edited, digest: &mut Digest) -> Option<String> {
     }
 }
 
-// Edits a text at the entry of a number: sets its value, adds an entry after it or in it, or removes it.
+// Edits a text at the entry with a number: sets its value, adds an entry after it or in it, or removes it.
 fn edited_at(
     alloc: Global,
     text: &str,
@@ -139,7 +139,7 @@ fn edited_at(
     Ok(Some(edited))
 }
 
-// Edits a text several times, each time the text that the last edit made, until an edit is refused.
+// Edits a text up to eight times, each time the result of the edit before, until an edit is refused.
 fn edit_again(
     alloc: Global,
     text: String,
@@ -161,7 +161,7 @@ fn edit_again(
     Ok(())
 }
 
-/// Edits so many texts in each way.
+/// Edits `size` texts in each way.
 pub fn edit(
     alloc: Global,
     words: &Words,

@@ -16,7 +16,7 @@ use std::alloc::{AllocError, Global};
 use std::collections::HashMap;
 use std::io::{self, Write};
 
-// Writes a name; where a line before has the same one, the number of that name in its place.
+// Writes a name, or its number if an earlier line has the same name.
 fn write_name<'t, W: Write>(
     numbers: &mut HashMap<&'t str, usize>,
     name: &'t str,
@@ -43,7 +43,7 @@ fn write_place<W: Write>(
     writeln!(out, ",\"line\":{line},\"column\":{column}}}")
 }
 
-// Writes the lines of the names that a text binds, each with its place, and adds their scopes.
+// Writes a line for each name that a text binds, with its place. Adds their scopes.
 fn write_bindings<'n, W: Write>(
     index: &LineIndex<'_>,
     bindings: &'n [Binding<'_>],
@@ -60,7 +60,7 @@ fn write_bindings<'n, W: Write>(
     Ok(())
 }
 
-// Writes the lines of the names that a text uses: the number of its binding, or else the name, and its place. Adds how they refer to it.
+// Writes a line for each name that a text uses: the number of its binding, or else the name, and its place. Adds how the name refers to the binding.
 fn write_references<'n, W: Write>(
     index: &LineIndex<'_>,
     references: &'n [Reference<'_>],
@@ -111,8 +111,8 @@ fn add_position(index: &LineIndex<'_>, offset: usize, digest: &mut Digest) {
     digest.add_number(place.column);
 }
 
-// Adds the nodes of a tree, and what those say that have a type. No two strings begin, and no two attributes or selections end in one place, nor does a
-// name begin there.
+// Adds the nodes of a tree, and what strings, entries and selections contain. No offset is looked up twice: no two strings begin, and no two entries or
+// selections end, at the same offset, and no name begins there.
 fn add_nodes(
     alloc: Global,
     root: &SyntaxNode<'_>,
@@ -167,7 +167,7 @@ fn print_text(alloc: Global, text: &str, digest: &mut Digest) -> io::Result<()> 
     Ok(())
 }
 
-/// Indexes sources with about so many entries together, and prints the trees of some.
+/// Indexes sources with about `size` entries together, and prints the trees of some.
 pub fn index(
     alloc: Global,
     words: &Words,

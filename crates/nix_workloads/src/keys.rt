@@ -1,4 +1,4 @@
-//! Key presses: a text is read again after each, and what stands under the pointer is looked up.
+//! Key presses: a text is read again after each, and what is under the pointer is looked up.
 
 use crate::check::{add_mistakes, add_names};
 use crate::digest::Digest;
@@ -12,7 +12,7 @@ use rnix_text::{ColumnUnit, LineIndex};
 use std::alloc::{AllocError, Global};
 use std::io;
 
-// What the key of a number adds to the text.
+// What the key with a number adds to the text.
 fn key(number: usize) -> &'static str {
     match number {
         0 => "x",
@@ -26,7 +26,7 @@ fn key(number: usize) -> &'static str {
     }
 }
 
-// How many places a text is asked about after each key press: one in each part of it, so that none is asked about twice.
+// How many places are looked up after each key press: one in each part of the text, so that none is looked up twice.
 const PLACES: usize = 40;
 
 // Adds the kinds of the nodes around a token.
@@ -91,7 +91,7 @@ fn read_again(
     Ok(())
 }
 
-// How many keys are pressed in a text, each in the text as it was made.
+// How many keys are pressed in a text, each in the original text.
 const KEYS: usize = 2;
 
 // Presses a key somewhere in a text.
@@ -117,7 +117,7 @@ fn press_keys(alloc: Global, text: &str, seed: u64, digest: &mut Digest) -> Resu
     Ok(())
 }
 
-/// Presses keys in so many texts of 5 to 150 KB.
+/// Presses keys in `size` texts of 5 to 150 KB.
 pub fn press(
     alloc: Global,
     words: &Words,

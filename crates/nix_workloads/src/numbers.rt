@@ -1,6 +1,6 @@
-//! Numbers without a pattern.
+//! Random numbers.
 
-/// A sequence of numbers without a pattern, the same for each seed.
+/// A sequence of random numbers, which a seed determines.
 #[derive(Clone, Copy)]
 pub struct Numbers {
     state: u64,

@@ -151,7 +151,7 @@ impl Files {
         })
     }
 
-    // One of the templates: of eight, one is such as the formatter would change; of the others, one of three is a module.
+    // One of the templates: one in eight is that of files that the formatter would change; of the others, one in three is that of modules.
     fn template(&self, numbers: &mut Numbers) -> &Template {
         if numbers.below(8) == 0 {
             &self.loose
@@ -162,7 +162,7 @@ impl Files {
         }
     }
 
-    /// A file of a collection: a package or a module, one in eight of them such as the formatter would change.
+    /// A file of a collection: a package or a module. The formatter would change one in eight of them.
     pub fn file(&self, alloc: Global, words: &Words, seed: u64) -> Result<String, AllocError> {
         let mut draft = Draft::new(alloc, words, seed);
         let template = self.template(draft.numbers());
@@ -171,7 +171,7 @@ impl Files {
     }
 }
 
-/// A list of all packages, with so many entries.
+/// A list of all packages, with `entries` entries.
 pub fn listing(
     alloc: Global,
     words: &Words,
@@ -201,7 +201,7 @@ const GENERATED: &str =
 
 "#;
 
-/// A generated set with so many entries, which the formatter would change.
+/// A generated set with `entries` entries, which the formatter would change.
 pub fn generated(
     alloc: Global,
     words: &Words,

@@ -1,4 +1,4 @@
-//! Pins and other data, as Nix and as JSON.
+//! Pins (versions that a file fixes) and other data, as Nix and as JSON.
 
 use crate::draft::Draft;
 use crate::template::Template;
@@ -17,7 +17,7 @@ const LOCKED: &str = r#"    "%a-%%": {
     },
 "#;
 
-/// A lock file in JSON, with so many pins.
+/// A lock file in JSON, with `pins` pins.
 pub fn lock(alloc: Global, words: &Words, seed: u64, pins: usize) -> Result<String, AllocError> {
     let mut draft = Draft::new(alloc, words, seed);
     draft.push("{\n  \"nodes\": {\n")?;
@@ -33,7 +33,7 @@ const STRING: &str = "  \"%a%%\": \"%b\\n\\t\\\"%c\\\" ${%d} \\u00e9\\\\\",\n";
 
 const LIST: &str = "  \"%a%%\": [ %0, -%1, %2.5, true, null ],\n";
 
-/// A JSON object with so many names, strings with escapes and numbers.
+/// A JSON object with about `names` names, whose values are strings with escapes and lists.
 pub fn flat(alloc: Global, words: &Words, seed: u64, names: usize) -> Result<String, AllocError> {
     let mut draft = Draft::new(alloc, words, seed);
     let (string, list) = (Template::new(alloc, STRING)?, Template::new(alloc, LIST)?);

@@ -1,4 +1,4 @@
-//! Single bytes typed into one text of about 1 MB, each behind the first small letter after a `{`. After each, the whole text is parsed.
+//! Single bytes typed into one text of about 1 MB, each after the first small letter that follows a `{`. After each, the whole text is parsed.
 
 use crate::anew::text_after;
 use crate::digest::Digest;

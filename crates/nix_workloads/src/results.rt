@@ -70,7 +70,7 @@ fn add_errors(errors: &[ParseError], digest: &mut Digest) {
     digest.add_number(errors.len());
 }
 
-/// Adds what was read of a text: its errors, how many elements its tree has, and those right below the root.
+/// Adds a parse: its errors, the number of elements of its tree, and the elements right below the root.
 pub fn add_parse(read: &Parse, digest: &mut Digest) {
     let root = read.syntax();
     add_errors(read.errors(), digest);
@@ -81,7 +81,7 @@ pub fn add_parse(read: &Parse, digest: &mut Digest) {
     }
 }
 
-/// Adds whether an edit was taken, and else why not.
+/// Adds whether an edit was accepted, or else why not.
 pub fn add_edit(edit: Result<(), EditError>, digest: &mut Digest) {
     digest.add_number(match edit {
         Ok(()) => 1,

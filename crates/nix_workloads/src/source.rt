@@ -16,7 +16,7 @@ const OPTION: &str = r#"  services.%a.enable = lib.mkEnableOption "the %b";
   users.%a = if config.%a.enable && !config.%b.off or false then { uid = %0; } else null;
 "#;
 
-/// A module with so many options.
+/// A module with `options` options.
 pub fn module(
     alloc: Global,
     words: &Words,
@@ -37,7 +37,7 @@ const OPENED: &str =
 // A use of these names.
 const USED: &str = "(%g (%e + %h.%i)) ";
 
-// An entry whose value follows.
+// The beginning of an entry, up to its value.
 const NAMED: &str = "%a-%% = ";
 
 // The templates of lets in functions in lets.
@@ -91,7 +91,7 @@ pub fn lets(alloc: Global, words: &Words, seed: u64, entries: usize) -> Result<S
 // A use of a name, alone and in a string.
 const USE: &str = "  %a%% = call { %b = version; %c = \"${version}-%0\"; };\n";
 
-/// A set in which one name is bound once and used twice in each of so many entries.
+/// A set in which one name is bound once and used twice in each of `entries` entries.
 pub fn uses(alloc: Global, words: &Words, seed: u64, entries: usize) -> Result<String, AllocError> {
     let mut draft = Draft::new(alloc, words, seed);
     draft.push("let version = \"1.2\"; call = x: x; in {\n")?;

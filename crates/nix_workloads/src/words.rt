@@ -27,7 +27,7 @@ pub struct Words {
     padded: Vec<String>,
 }
 
-// Makes a word that begins with the two syllables of a number, and continues with others for each further PAIRS.
+// Makes the word with a number: the first two syllables depend on the number modulo PAIRS, and there is one more for each multiple of PAIRS in it.
 fn word(alloc: Global, number: u64) -> Result<String, AllocError> {
     let mut text = String::new(alloc);
     let mut left = number % PAIRS | mixed(number) << 10;
@@ -48,7 +48,7 @@ fn all_words(alloc: Global) -> Result<Vec<String>, AllocError> {
 }
 
 impl Words {
-    /// Makes them.
+    /// Makes all words and numbers.
     pub fn new(alloc: Global) -> Result<Words, AllocError> {
         let (mut numbers, mut padded) = (Vec::new(alloc), Vec::new(alloc));
         for number in 0..NUMBERS {

@@ -28,7 +28,7 @@ pub enum Part {
 }
 
 impl Part {
-    /// The part of a name.
+    /// The part with a name.
     pub fn named(name: &str) -> Option<Part> {
         match name {
             "tokens" => Some(Part::Tokens),
@@ -68,7 +68,7 @@ fn count_printed(alloc: Global, root: &SyntaxNode<'_>) -> io::Result<usize> {
     Ok(out.len())
 }
 
-// What one turn of a part counts in a text; trees are walked and printed as they were read before.
+// What one turn of a part counts in a text. The parts that walk or print a tree use the one that was made before.
 fn turn(alloc: Global, part: Part, text: &str, root: &SyntaxNode<'_>) -> io::Result<usize> {
     match part {
         Part::Tokens => Ok(count_tokens(alloc, text)?),
@@ -81,7 +81,7 @@ fn turn(alloc: Global, part: Part, text: &str, root: &SyntaxNode<'_>) -> io::Res
     }
 }
 
-// The text that is read before the turns: none where reading itself is timed.
+// The text that is parsed before the turns: an empty one if tokenizing or parsing is timed.
 fn read_before(part: Part, text: &str) -> &str {
     match part {
         Part::Tokens | Part::Parse => "",
@@ -89,7 +89,7 @@ fn read_before(part: Part, text: &str) -> &str {
     }
 }
 
-/// One line: what a turn counted, and the fewest microseconds that one took.
+/// Prints a line: what a turn counted, and the fewest microseconds that one took.
 pub fn report(rt: &HostRuntime, part: Part, text: &str, turns: u64) -> io::Result<()> {
     let tokens = tokenize(rt.alloc(), read_before(part, text));
     let (tree, _errors) = parse(rt.alloc(), tokens)?;

@@ -7,14 +7,14 @@ const CHAINS: u64 = 10_000;
 
 const OFFSETS: u64 = 100_000;
 
-// The next of a sequence of numbers without a pattern.
+// The next of a sequence of random numbers.
 fn next_number(number: u64) -> u64 {
     number
         .wrapping_mul(6_364_136_223_846_793_005)
         .wrapping_add(1_442_695_040_888_963_407)
 }
 
-// An offset in the node's range, by a number.
+// The offset in a node's range that a number determines.
 fn offset_in(node: &SyntaxNode<'_>, number: u64) -> usize {
     let range = node.text_range();
     let len = range.end().saturating_sub(range.start());
@@ -39,7 +39,7 @@ pub fn count_range_bytes(root: &SyntaxNode<'_>) -> usize {
     bytes
 }
 
-/// How many bytes of tokens are at some offsets.
+/// How many bytes the tokens at random offsets have together.
 pub fn look_up(root: &SyntaxNode<'_>) -> usize {
     let range = root.text_range();
     let (mut number, mut bytes): (u64, usize) = (1, 0);
@@ -55,7 +55,7 @@ pub fn look_up(root: &SyntaxNode<'_>) -> usize {
     bytes
 }
 
-/// How many nodes are around the tokens at some offsets.
+/// How many nodes are around the tokens at random offsets.
 pub fn follow_parents(root: &SyntaxNode<'_>) -> usize {
     let range = root.text_range();
     let (mut number, mut nodes): (u64, usize) = (1, 0);
