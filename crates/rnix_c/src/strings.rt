@@ -125,7 +125,7 @@ fn write_parts(parts: &[InterpolPart<'_, String>], room: &mut [RnixPart]) -> i64
     parts.len() as i64
 }
 
-/// Writes the joined texts of a string's normalized parts, and returns their length in bytes.
+/// Writes the concatenated texts of a string's normalized parts, and returns their length in bytes.
 #[unsafe(no_mangle)]
 pub extern "C" fn rnix_string_text(
     alloc: Global,
