@@ -42,7 +42,7 @@ nix-update [OPTION..] --remove PATH [FILE]
 Prints a Nix text in which the attribute of the dotted PATH is the string VALUE in place of another string, and all else is as before. In
 PATH, names are written as in the text, quotes included: a and \"a\" are one name. - or no FILE means standard input.
 
-PATH begins at the set that the text is, or that is in brackets, in the body of a function, `let`, `with` or `assert`, in the argument of a
+PATH begins at the outermost set of the text, which may be in brackets, in the body of a function, `let`, `with` or `assert`, in the argument of a
 call, or beside names and calls of `//`; the value at each further name of PATH is searched in the same way. If the set has no such attribute,
 the value of a name of a `let` around it is set, with a line on standard error that says so.
 
