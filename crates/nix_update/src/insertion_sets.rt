@@ -41,7 +41,7 @@ fn add_insertion_set<'t>(
     Ok(())
 }
 
-/// Returns the sets along a path to which the largest number of names lead: a new attribute is added to one of them.
+/// Returns the sets along a path to which the largest number of names lead: if there is only one, a new attribute is added to it.
 pub fn insertion_sets<'t>(
     alloc: Global,
     steps: &[PathStep<'t>],

@@ -11,7 +11,7 @@ use crate::packed::Packed;
 use rnix_kinds::SyntaxKind;
 use std::alloc::AllocError;
 
-// A node whose children are being placed, last one first: its number, and the entry that is its first child.
+// A node whose children are being placed, last one first: its number, and the first entry inside it.
 #[derive(Clone, Copy)]
 pub(crate) struct Frame {
     kind: SyntaxKind,

@@ -139,7 +139,7 @@ fn children_at_both_ends_and_ancestors(rt: HostRuntime) -> Result<(), Fail> {
 }
 
 // Whether no token comes before the first one, and none after the last one.
-fn ends_with_its_tokens(root: &SyntaxNode<'_>) -> Option<bool> {
+fn has_no_token_beyond_its_ends(root: &SyntaxNode<'_>) -> Option<bool> {
     let (first, last) = (root.first_token()?, root.last_token()?);
     Some(
         first.text() == "1"
@@ -151,8 +151,8 @@ fn ends_with_its_tokens(root: &SyntaxNode<'_>) -> Option<bool> {
 }
 
 #[test]
-fn a_text_ends_with_its_first_and_its_last_token(rt: HostRuntime) -> Result<(), Fail> {
+fn no_token_comes_before_the_first_or_after_the_last(rt: HostRuntime) -> Result<(), Fail> {
     let read = Parsed::new(rt.alloc(), SUM)?;
-    assert!(rt; ends_with_its_tokens(&read.syntax()) == Some(true));
+    assert!(rt; has_no_token_beyond_its_ends(&read.syntax()) == Some(true));
     Ok(())
 }
