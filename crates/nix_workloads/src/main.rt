@@ -36,7 +36,8 @@ const JOBS: [&str; 6] = ["check", "index", "edit", "convert", "keys", "awkward"]
 
 // How the program is called.
 const USAGE: &str =
-    "nix_workloads JOB SEED SIZE, with one of these jobs: check index edit convert keys awkward anew again press press-anew break break-anew all compare";
+    "nix_workloads JOB SEED SIZE, with one of these jobs: check index edit convert keys awkward anew again press press-in-place press-anew break \
+break-anew all compare";
 
 // Does a job on texts of a seed, and adds its results to the digest. An unknown job has no results.
 fn work(
