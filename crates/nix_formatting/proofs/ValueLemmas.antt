@@ -31,7 +31,7 @@ symbol_list_bare n [] = refl
 symbol_list_bare n (Literal text ∷ parts) = ap (λ list. map (λ b. record { part = n; byte = Some b }) text ++ list) (symbol_list_bare (suc n) parts)
 symbol_list_bare n (Interpolation i ∷ parts) = ap (λ list. record { part = n; byte = None } ∷ list) (symbol_list_bare (suc n) parts)
 
--- removing the first line feed leaves the same bare parts
+-- the first line feed may be removed before or after parts are made bare
 opens_bare : {I : Type 0} (is_blank : Bool) (text rest : List ℕ) (parts : Parts I)
     → bare_parts (if is_blank then literal_if_some rest ++ parts else Literal text ∷ parts)
     ≡ (if is_blank then literal_if_some rest ++ bare_parts parts else Literal text ∷ bare_parts parts)
@@ -44,14 +44,14 @@ opened_bare [] = refl
 opened_bare (Literal text ∷ parts) = opens_bare (opens_blank text) text (behind_blank text) parts
 opened_bare (Interpolation i ∷ parts) = refl
 
--- replacing texts leaves the same bare parts
+-- texts may be replaced before or after parts are made bare
 texts_bare : {I : Type 0} (list : List Symbol) (n : ℕ) (parts : Parts I) → bare_parts (with_texts list n parts) ≡ with_texts list n (bare_parts parts)
 unfolding with_texts
 texts_bare list n [] = refl
 texts_bare list n (Literal text ∷ parts) = ap (λ ps. Literal (part_text n list) ∷ ps) (texts_bare list (suc n) parts)
 texts_bare list n (Interpolation i ∷ parts) = ap (λ ps. Interpolation 0 ∷ ps) (texts_bare list (suc n) parts)
 
--- removing the last spaces leaves the same bare parts
+-- the last spaces may be removed before or after parts are made bare
 closed_bare : {I : Type 0} (parts : Parts I) → bare_parts (closed parts) ≡ closed (bare_parts parts)
 unfolding closed
 closed_bare [] = refl
@@ -75,7 +75,7 @@ indented_bare parts =
     ∙ ap (λ list. with_texts (unindented list) 0 (opened (bare_parts parts)))
     (sym (symbol_list_bare 0 (opened parts)) ∙ ap (symbols 0) (opened_bare parts))))
 
--- removing the last line leaves the same bare parts
+-- the last line may be removed before or after parts are made bare
 ended_bare : {I : Type 0} (parts : Parts I) → bare_parts (ended parts) ≡ ended (bare_parts parts)
 unfolding ended
 ended_bare [] = refl
@@ -83,7 +83,7 @@ ended_bare (Literal text ∷ []) = refl
 ended_bare (Literal text ∷ (part ∷ parts)) = ap (λ ps. Literal text ∷ ps) (ended_bare (part ∷ parts))
 ended_bare (Interpolation i ∷ parts) = ap (λ ps. Interpolation 0 ∷ ps) (ended_bare parts)
 
--- removing the indentation of lines leaves the same bare parts
+-- the indentation of lines may be removed before or after parts are made bare
 dedented_bare : {I : Type 0} (n : ℕ) (parts : Parts I) → bare_parts (dedented n parts) ≡ dedented n (bare_parts parts)
 dedented_bare n parts =
     texts_bare (flat_map (shortened n) (lines (symbols 0 parts))) 0 parts

@@ -16,8 +16,8 @@ struct Scan {
     blanks: Option<usize>,
     // Whether there was a line feed.
     is_broken: bool,
-    // Whether the string can be moved: the line of the opening quotes has nothing but spaces, no line begins with a tab or a carriage return, and
-    // no line that begins at an escaped line feed has spaces there.
+    // Whether the string can be moved: the line of the opening quotes has nothing but spaces, no line begins with a tab or a carriage return,
+    // perhaps after spaces, and no line that begins at an escaped line feed has spaces there.
     can_move: bool,
 }
 
@@ -78,8 +78,8 @@ impl Scan {
 }
 
 /// Returns the smallest indentation of a string's lines, if the string can be moved: it is in `''`, has several lines, has nothing but spaces on the
-/// line of the opening quotes, and has no line that begins with a tab, a carriage return or, after an escaped line feed, a space. The result is
-/// `LIMIT` if the indentation is larger, or if no line has text.
+/// line of the opening quotes, and has no line that begins with a tab or a carriage return, perhaps after spaces, and none that begins with a space after an
+/// escaped line feed. The result is `LIMIT` if the indentation is larger, or if no line has text.
 pub fn indentation_of(string: &SyntaxNode<'_>) -> Option<usize> {
     if !is_indented(string) {
         return None;

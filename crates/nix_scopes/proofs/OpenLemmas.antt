@@ -13,7 +13,7 @@ abbrev pub IsBelow : Located → List Located → Type 0
 IsBelow e [] = Unit {0}
 IsBelow e (parent ∷ nodes) = parent_of e ≡ Some parent
 
--- whether an element is inside the root
+-- whether an element does not come before the root
 abbrev pub within : Located → Located → Bool
 within root a = nat_le root.number a.number
 

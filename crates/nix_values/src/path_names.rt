@@ -96,7 +96,7 @@ impl Reading {
     }
 }
 
-/// Returns the names of a dotted path. A name that begins with `"` ends with the next `"` that has no backslash before it, and its escapes are replaced as
+/// Returns the names of a dotted path. A name that begins with `"` ends with the next `"` that is not part of an escape, and its escapes are replaced as
 /// in a string of Nix. Returns `None` if no quote ends it, or if something other than a dot follows that quote.
 pub fn names_of(alloc: Global, path: &str) -> Result<Option<Vec<PathName>>, AllocError> {
     let mut reading = Reading {

@@ -40,7 +40,7 @@ fn push_letter(letter: char, text: &mut String) -> Result<(), AllocError>
     text.push(letter)
 }
 
-// Appends a byte before a text, with an escape if it needs one.
+// Appends a byte that is not ordinary, with an escape if it needs one where `rest` follows it.
 #[tactic(auto, unfolding(crate::specs::Quoted::escape_of))]
 fn push_escape(byte: u8, rest: &str, text: &mut String) -> Result<(), AllocError>
     ensures { OnOk result (is_ordinary byte ≡ false → string_bytes text.new ≡ string_bytes text.old ++ escape_of byte rest.now) }

@@ -1,2 +1,2 @@
-//! Trivia between the items of a text change no tree.
+//! Two texts with the same items, which touch alike inside paths, have the same tree apart from trivia.
 #![tactic(auto)]

@@ -1,4 +1,4 @@
-//! The text of an expression, read alone, is that expression.
+//! The items of an expression, read alone, are that expression.
 #![tactic(auto)]
 
 mod law;

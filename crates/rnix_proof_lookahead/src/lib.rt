@@ -1,4 +1,4 @@
-//! The nodes that end at an item depend on what follows by the kind of the next item alone.
+//! The nodes that end at an item depend on what follows only through the kind of the next item.
 #![tactic(auto)]
 
 mod law;

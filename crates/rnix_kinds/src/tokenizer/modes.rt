@@ -45,7 +45,7 @@ impl Modes {
         self.items.pop();
     }
 
-    /// Leaves the innermost mode if it is a path that does not continue.
+    /// Leaves the innermost modes that are paths, unless the path continues.
     pub fn leave_ended_paths(&mut self, text: &str)
         ensures { self.new ≡ without_ended_paths self.old text.now }
     {
