@@ -33,7 +33,7 @@ abbrev pub range_or : ℕ → Option Extent → Extent
 range_or end None = record { start = end; end = end }
 range_or end (Some range) = range
 
--- the range of an error, if it has one; for the nesting limit, the range of the first error node that ends with the last token
+-- the range of an error, if it has one; for the nesting limit, that of the first error node that ends with the last token that is not trivia
 abbrev pub own_range : Located → Fault → Option Extent
 own_range root too_deep = error_range (end_of_items root) root
 own_range root fault = range_in fault

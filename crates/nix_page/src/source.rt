@@ -76,8 +76,8 @@ fn write_tokens<W: Write>(read: &Parse, errors: &mut Errors<'_>, out: &mut W) ->
     errors.open(root.text_range().end(), out)
 }
 
-/// Writes the tokens of a text, and then its errors in the order of their ranges. Each message is written twice, whatever the number of tokens in
-/// the range.
+/// Writes the tokens of a text, and then its errors in the order of their ranges. Each message is written at most twice, whatever the number of tokens
+/// in the range.
 pub fn write_source<W: Write>(alloc: Global, read: &Parse, out: &mut W) -> io::Result<()> {
     let mut found = diagnostics(alloc, read)?;
     // Of two that start at the same offset, the longer one contains the other.

@@ -1,4 +1,4 @@
-//! The attributes of sets by name. Each is found by its hash; if too many names share a hash, the others are found in the order of their names.
+//! The attributes of sets by name. Each is found by its hash, or in an ordered map of names if another one has its hash or all slots of the hash are taken.
 
 ghost use Rattle.std.specs.Prelude.{◌≡◌, ◌≢◌, ℕ, List, Option, Some, option_map, IsTrue, false, OnOk, OnErr};
 ghost use Rattle.nix_values.specs.Keys.{Keys, is_key};

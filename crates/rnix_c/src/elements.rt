@@ -56,7 +56,7 @@ fn fill(green: &GreenNode, count: usize, room: &mut [RnixElement])
     }
 }
 
-/// Writes the first elements of the tree, as many as fit into the array, and returns their number in the tree.
+/// Writes the first elements of the tree, as many as fit into the array, and returns the number of all elements of the tree.
 pub fn written(green: &GreenNode, room: &mut [RnixElement]) -> i64
     ensures { IsWritten (elements_of green.now) result room.old room.new }
 {

@@ -1,2 +1,2 @@
-//! Items with which others begin that are read without errors have no error.
+//! If a text begins with the same items as a text without errors, no error begins at these items, unless they end with `{` and `...`.
 #![tactic(auto)]

@@ -41,7 +41,7 @@ fn is_token(green: &GreenNode, number: usize, kind: SyntaxKind) -> bool
     !element.is_node && is_same_kind(element.kind, kind)
 }
 
-// Returns whether the parent of an element has a number.
+// Returns whether an element has the parent with a given number.
 fn is_child(green: &GreenNode, number: usize, parent: usize) -> bool
     requires { number < length (items_of green.now) }
     ensures { IsTrue result → (item green.now number).parent ≡ Some parent }

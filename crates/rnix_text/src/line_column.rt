@@ -70,7 +70,7 @@ impl Mark {
         }
     }
 
-    // Returns the position after a byte.
+    // Returns the mark after a byte.
     pub(crate) fn after(self, unit: ColumnUnit, byte: u8) -> Mark
         requires offset { self.offset + 1 < 2 ^ 64 }
         requires line { self.position.line + 1 < 2 ^ 64 }

@@ -117,7 +117,7 @@ opens_path TOKEN_PATH_HOME = true
 opens_path TOKEN_PATH_REL = true
 opens_path kind = false
 
--- which texts a token of a kind may have: only `or` has its own kind, and no rule returns TOKEN_CUR_POS or the kind of a node
+-- which texts a token of a kind may have: a TOKEN_OR is `or`, a TOKEN_IDENT is not, and no rule returns TOKEN_CUR_POS or the kind of a node
 abbrev pub MayBe : SyntaxKind → List ℕ → Type 0
 MayBe TOKEN_CUR_POS word = ⊥
 MayBe TOKEN_OR word = word ≡ codes "or"
