@@ -180,9 +180,9 @@ pub fn find_files(rt: &HostRuntime, program: &Program, names: &[String]) -> io::
     Ok(inputs_of(rt, program, names, Links::Skipped)?.files)
 }
 
-/// Returns the files that the arguments name, for [`Inputs::read_text`]. `-` and no names mean standard input. A folder means all regular files in it and
-/// the folders in it whose names end with `.nix`, and symbolic links to regular files; anything else with such a name is skipped and reported. Any other name
-/// is a file. A folder that cannot be read is reported and counted.
+/// Returns the files that the arguments name, for [`Inputs::read_text`]. `-` and no names mean standard input. A folder means the regular files in it, and in
+/// the folders in it, whose names end with `.nix`, and symbolic links with such names to regular files or to nothing; anything else with such a name is skipped
+/// and reported. Any other name is a file. A folder that cannot be read is reported and counted.
 pub fn find_inputs(rt: &HostRuntime, program: &Program, names: &[String]) -> io::Result<Inputs> {
     inputs_of(rt, program, names, Links::Read)
 }

@@ -1,4 +1,4 @@
--- A token stays the same if what follows it is replaced by a blank.
+-- A token stays the same if the text after it, from some offset on, is replaced by a blank and any other bytes.
 use Rattle.std.proofs.Common.{◌≡◌, ◌∙◌, ℕ, suc, ◌-◌, ◌≤◌, Bool, true, false, List, [], ◌∷◌, length, take, ap, sym, refl, arith, Option, Some, None}
 use Rattle.std.specs.Prelude.{◌==◌, ◌||◌, ◌&&◌, nat_eq, codes, option_map, if◌then◌else◌}
 use Rattle.std.specs.List.{starts_with}

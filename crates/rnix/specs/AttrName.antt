@@ -33,7 +33,7 @@ is_lone text =
     bytes_eq text (codes "$") || (bytes_eq text (codes "'''") || (bytes_eq text (codes "''$")
     || (length text == 4 && starts_with nat_eq text (codes "''\\"))))
 
--- whether Nix reads the content of a string in `''` as one piece: it has no interpolation, and is one token of Nix
+-- whether Nix reads the content of a string in `''` as one piece: it is empty, or has no interpolation and is one token of Nix
 abbrev pub is_one_piece : List (InterpolPart Located Located) → Bool
 is_one_piece [] = true
 is_one_piece (Literal token ∷ []) = is_run (text_at token) || is_lone (text_at token)

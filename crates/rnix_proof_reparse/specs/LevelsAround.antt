@@ -5,7 +5,7 @@ use Rattle.rnix_green.specs.Forest.{Forest, empty, leaf, join}
 use Rattle.rnix_green.specs.Context.{Context, here, behind_leaf, behind_node, inside}
 use Rattle.rnix_grammar.specs.Nest.{nests}
 
--- how many counted expressions are around what is inside the node, by its kind, in the children of a node of another kind
+-- how many counted expressions are around what is inside a node, in the children of a node of the first kind; the second kind is that of the node itself
 abbrev pub levels_around : SyntaxKind → SyntaxKind → Context → ℕ
 levels_around p k (here f) = if nests p k then 1 else 0
 levels_around p k (behind_leaf j t x) = levels_around p k x
