@@ -4,8 +4,9 @@ use rnix::ast::AstNode;
 use std::alloc::{AllocError, Global};
 use std::test::Fail;
 
-// Whether a child of the root has a kind of the set.
-fn has_child_of(root: &rnix::Root<'_>, set: rnix::TokenSet) -> bool {
+// Returns 1 if a child of the root has a kind of the set, and otherwise 0.
+fn kinds_below(root: &rnix::Root<'_>, set: rnix::TokenSet) -> usize {
+    let mut found = 0;
     let children: rnix::SyntaxElementChildren<'_> = root.syntax().children_with_tokens();
     for element in children {
         let kind: rnix::SyntaxKind = match element {
@@ -13,10 +14,10 @@ fn has_child_of(root: &rnix::Root<'_>, set: rnix::TokenSet) -> bool {
             rnix::NodeOrToken::Token(token) => token.kind(),
         };
         if set.contains(kind) {
-            return true;
+            found = 1usize.max(found);
         }
     }
-    false
+    found
 }
 
 #[test]
@@ -37,7 +38,7 @@ fn a_text_is_read(rt: HostRuntime) -> Result<(), Fail> {
     let errors: &[rnix::ParseError] = read.errors();
     assert!(rt; errors.is_empty());
     let blank = rnix::TokenSet::new(rnix::SyntaxKind::TOKEN_WHITESPACE);
-    assert!(rt; has_child_of(&read.tree(), blank));
+    assert_eq!(rt; kinds_below(&read.tree(), blank), 1);
     Ok(())
 }
 
