@@ -101,7 +101,7 @@ lines_more f names i d old mid new within before own =
     flat_map_more f [] (take i names) (get_or names i d) ∙ ap (flat_map f) (sym (take_more names i d within)) in
     subst (λ (bytes : List ℕ). Appends old new bytes) all (Appends-trans old mid new (flat_map f (take i names)) (f (get_or names i d)) before own)
 
--- no errors have no faults
+-- without errors there are no faults
 pub no_faults : (errors : List ParseError) (faults : List Fault) → length errors ≡ 0 → map fault_of errors ≡ faults → faults ≡ []
 no_faults [] faults none is = sym is
 no_faults (error ∷ errors) faults none is = absurd (omega (arith, none))

@@ -50,7 +50,7 @@ inner_by k.NODE_APPLY e = child_of is_expr 1 e
 inner_by k.NODE_BIN_OP e = operand e
 inner_by _ e = None
 
--- the expression into which a path leads inside a node: the one in brackets, the body of a function, a `let`, a `with` or an `assert`, the
+-- the expression into which a path leads inside a node: the one of the root or in brackets, the body of a function, a `let`, a `with` or an `assert`, the
 -- argument of a call, or the only operand of `//` that is a set or another operation
 abbrev pub inner : Located → Option Located
 inner e = inner_by (item_of e).kind e

@@ -58,8 +58,8 @@ fn operand<'t>(node: &SyntaxNode<'t>) -> Option<SyntaxNode<'t>>
     }
 }
 
-/// Returns the expression in a node that has the node's attributes: the one in parentheses, the body of a function, a `let`, a `with` or an `assert`, the
-/// argument of a call, or the only operand of `//` that is a set or another operation.
+/// Returns the expression in a node that has the node's attributes: the one of the root or in parentheses, the body of a function, a `let`, a `with` or an
+/// `assert`, the argument of a call, or the only operand of `//` that is a set or another operation.
 pub fn inner<'t>(node: &SyntaxNode<'t>) -> Option<SyntaxNode<'t>>
     ensures { result ≡ inner node.now }
 {

@@ -16,7 +16,7 @@ is_stop b = b == 34 || b == 36 || b == 39 || b == 40 || b == 41 || b == 91 || b 
 abbrev pub is_half : ℕ → Bool
 is_half b = b == 36 || b == 39
 
--- a text begins with a whole bracket
+-- a text begins with the first byte of a bracket, and with one more byte if that is half a bracket
 pub record BeginsBracket (o : List ℕ) : Type 0 where
   pub some : 0 < length o
   pub stop : is_stop (get_or o 0 0) ≡ true

@@ -93,7 +93,7 @@ is_closed NODE_PAT_ENTRY = false
 is_closed NODE_ERROR = false
 is_closed k = true
 
--- the action ends the row of a node of the kind; nothing ends the root's
+-- the action ends the row of a node of the kind; for the root, this is true of every action but `CloseEntry` and `CloseDoubleBind`
 abbrev pub is_ending : SyntaxKind → Action → Bool
 is_ending k a.Close = is_closed k
 is_ending k a.ClosePattern = is_closed k
@@ -101,7 +101,7 @@ is_ending k a.CloseEntry = same_kind NODE_PAT_ENTRY k
 is_ending k a.CloseDoubleBind = same_kind NODE_ERROR k
 is_ending k action = same_kind NODE_ROOT k
 
--- the end of a pattern that has a bound name before it, or the end of the text
+-- the row has come to the end of a pattern that has a name before it; the next test is for the end of the text
 abbrev pub is_bound : Row → Bool
 is_bound (BoundAlready · r) = true
 is_bound r = false
@@ -128,7 +128,7 @@ is_inner NODE_ROOT = false
 is_inner NODE_ERROR = false
 is_inner k = true
 
--- the kinds of nodes that begin with a token and are no operands; the next test is also for those that begin with a name
+-- the kinds of nodes that begin with a token, where no operand is expected; the next test is also for those that begin with a name
 abbrev pub opens_with_item : SyntaxKind → Bool
 opens_with_item k = list_any (λ j. same_kind j k) (NODE_STRING ∷ (NODE_DYNAMIC ∷ (NODE_INTERPOL ∷ (NODE_INHERIT ∷ (NODE_INHERIT_FROM ∷ (NODE_PAT_BIND ∷ []))))))
 

@@ -30,7 +30,7 @@ read_on {m} {k} {d} {n} {b} {us} {f} {es} rows x i w =
     let r = rows k d n x w.last b us f es i w.part (end_viable w.last w.over.0) in
     record { position = r.position; row = r.row; here = r.here; over = subst (λ (s : Row). IsOver s (end_from n (tokens_in f)) us) (sym r.is) w.over }
 
--- only entries of patterns report anything when they close
+-- a node that is neither an entry of a pattern nor an error node reports nothing when it closes
 pub quiet : (k : SyntaxKind) (b c : AnnotatedForest) → is_closed k ≡ true → repeats k b c ≡ []
 quiet NODE_PAT_ENTRY b c e = absurd (true_is_not_false (sym e))
 quiet _ b c e = refl
