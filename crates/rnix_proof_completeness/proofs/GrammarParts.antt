@@ -50,7 +50,7 @@ part_node {test = test} {i = i} {a = a} {c = c} p w = record { node = w; opens =
     opens b us (over_node {b = x} {f = h} o v) = subst (λ ts. Opens test ts) (sym (append_assoc (tokens_in x) (tokens_in h) us))
         (p.opens x (tokens_in h ++ us) o)
 
--- an attribute is read, before anything that does not make a longer name of it
+-- an attribute is read before any item, and an attribute path before any but `.`
 pub record GoodAttr (k : SyntaxKind) (c : Forest) : Type 0 where
   pub attr : is_attr k ≡ true
   pub part : Part anything begins_attr k c

@@ -34,7 +34,7 @@ token_read {p} {q} {d} {n} {g} {f} {us} {k} {x} e i w h =
     subst (λ z. IsFollowed q g (Some z) → IsRead p d x.end (after q z) (g ⊕ one_token z x) f us → IsRead p d n q g (token z x f) us) (sym e)
     (λ v r. (r.0, read.leaf i v r.1, r.2)) w h
 
--- a node is read, and then the rest of the forest, up to an equal row
+-- a node is read, and then the rest of the forest, up to a position of the row
 pub node_reads : {p : SyntaxKind} {q s z : Row} {d n : ℕ} {g f : AnnotatedForest} {us : List Token} {k : SyntaxKind} {c : AnnotatedForest} → after q k ≡ s
     → IsRoom q d
     → IsRead k (deeper q d) n (row k) blank c (tokens_in f ++ us) → IsExpected q n (tokens_in c ++ (tokens_in f ++ us)) (is_first_expected q k c)

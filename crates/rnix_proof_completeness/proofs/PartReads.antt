@@ -150,7 +150,7 @@ node_on {p} {q} {s} {G} {H} {N} {F} {k} {c} {t} e fits placed before inside behi
         node_read e x.0 (inside.reads (deeper q d) n b (tokens_in h ++ us) o a.0 a.1 x.1 y) i.0 i.1 i.2 i.3
         (r.reads d (end_from n (tokens_in b)) (g ⊕ one_branch k b) h us v a.2 (room p k c t d m).1 (before g b o w) z)
 
--- the parts of a row that are no operands, and do not depend on the tree before them
+-- the rows whose first part requires no level of its tree and nothing of the tree before it
 abbrev pub is_part : Row → Bool
 is_part (p.Suffix kind · r) = false
 is_part (p.Binary · r) = false

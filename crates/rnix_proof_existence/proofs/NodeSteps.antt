@@ -31,7 +31,7 @@ expected r n ts own h = expected_as r n ts own (expects_at r n ts ∙ h)
 over : (r : Row) (n : ℕ) (ts : List Token) → MayEnd r (touches n ts) (head_kind ts) → IsOver r n ts
 over r n ts w = (w.0, expected r n ts false w.1)
 
--- all items that are left, and the items after these
+-- the items that are left, with none after them; a depth within the limit and not below it is the limit
 all_remaining : (ts : List Token) → ts ≡ ts ++ dropped ts ts
 all_remaining ts = sym (ap (λ z. ts ++ z) (dropped_all ts) ∙ append-nil ts)
 

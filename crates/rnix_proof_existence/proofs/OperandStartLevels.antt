@@ -24,7 +24,7 @@ is_begun NODE_HAS_ATTR = false
 is_begun NODE_SELECT = false
 is_begun k = is_expression k
 
--- the row of such a node begins with its first child
+-- the row of such a node begins with a child on which it puts no conditions
 pub begun_front : (k : SyntaxKind) → is_begun k ≡ true → IsFront (row_of_kind k)
 begun_front k h = front (row_of_kind k) (implied is_begun (λ j. is_front (row_of_kind j)) refl k h)
 

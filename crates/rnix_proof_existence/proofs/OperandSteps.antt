@@ -28,7 +28,7 @@ argument_is k h = implied (λ o. nat_eq (binding_power o) 15) is_fn_arg refl k (
 argument_no_or : (k : SyntaxKind) → binding_power k ≡ 15 → is_or k ≡ false
 argument_no_or k h = not_if (is_or k) (implied (λ o. nat_eq (binding_power o) 15) (λ o. if is_or o then false else true) refl k (grind (arith, nat_tests, h)))
 
--- an item that may not continue an operand between two levels continues no tree that only looser items continue
+-- an operand is not continued by an item that may not continue it between its two levels
 not_followed_behind : (min_bp max_bp : ℕ) (x : AnnotatedForest) (ts : List Token) →
     ((j : SyntaxKind) → head_kind ts ≡ Some j → may_continue min_bp max_bp j ≡ false)
     → FollowedTo max_bp x → is_continued min_bp x ts ≡ false

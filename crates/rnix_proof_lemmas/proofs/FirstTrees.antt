@@ -26,7 +26,7 @@ pub single_operator : (x f : AnnotatedForest) (j : SyntaxKind) (t : Token) → I
 single_operator _ f j t a_node = refl
 single_operator _ f j t an_error = refl
 
--- a call of the name `or` is found by the argument after a single tree
+-- whether a call's argument is the name `or` is decided by the trees after a single tree
 pub single_calls : (x g : AnnotatedForest) → IsSingle x → calls_or (x ⊕ g) ≡ is_or_row g
 single_calls _ g a_node = refl
 single_calls _ g an_error = refl

@@ -53,7 +53,7 @@ follows_level i x h = by (follows_by i x h) refl refl
     by (by_argument p l) d e = omega (arith, l, d, p)
     by (by_name p e) d u = omega (arith, p, atom_level x (sym u ∙ e))
 
--- every item that continues the tree binds no tighter than the level
+-- an item continues the tree exactly if it has a binding power, and binds no tighter than the level
 abbrev pub FollowedTo : ℕ → AnnotatedForest → Type 0
 FollowedTo max_bp x = (j : SyntaxKind) → ((1 ≤ binding_power j → binding_power j ≤ max_bp → follows j x ≡ true)
     × (follows j x ≡ true → (1 ≤ binding_power j) × (binding_power j ≤ max_bp)))
@@ -88,7 +88,7 @@ followed_by level atom max_bp h x e f j =
 pub followed_atom : (x : AnnotatedForest) → row_level x ≡ 16 → is_atom_row x ≡ true → FollowedTo 16 x
 followed_atom = followed_by 16 true 16 refl
 
--- a selection or a call of the name `or` is followed by what binds no tighter than 15
+-- a selection, or a call whose argument is the name `or`, is followed by what binds no tighter than 15
 pub followed_selection : (x : AnnotatedForest) → row_level x ≡ 16 → is_atom_row x ≡ false → FollowedTo 15 x
 followed_selection = followed_by 16 false 15 refl
 

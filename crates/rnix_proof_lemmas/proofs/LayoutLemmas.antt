@@ -6,7 +6,7 @@ use Rattle.rnix_grammar.specs.{AnnotatedForest.{without_trivia, token_if, leaf_k
 use Rattle.rnix_grammar.specs.Layout.{trivia_before, item_if, items, tail_of, is_last, trivia_after, rest_after, remaining_after, with_trivia}
 use Rattle.rnix_proof_lemmas.proofs.{AnnotatedForestLemmas.tokens_two, Basics.true_is_not_false}
 
--- no trivia are before the first item
+-- no trivia are before the tokens from the first item on
 pub trivia-from_item : (ts : List Token) → trivia_before (from_item ts) ≡ blank
 trivia-from_item [] = refl
 trivia-from_item (t ∷ ts) = advance (trivia-from_item ts) (is_trivia t.kind) refl
@@ -197,7 +197,7 @@ pub nothing_from : (xs : List Token) → items_head xs ≡ [] → xs ≡ []
 nothing_from [] h = refl
 nothing_from (t ∷ ts) h = absurd (cc)
 
--- trivia before a node keep their kinds below any parent
+-- trivia keep their kinds below a name
 trivia_name : (k : SyntaxKind) → is_trivia k ≡ true → k ≡ leaf_kind_as NODE_IDENT k
 trivia_name TOKEN_OR h = absurd (true_is_not_false (sym h))
 trivia_name _ h = cc

@@ -10,7 +10,7 @@ is_bound TOKEN_AT = true
 is_bound TOKEN_INTERPOL_START = true
 is_bound kind = false
 
--- the next token is an operator of at most the level, or ends an expression
+-- the next token, if there is one, binds no tighter than the level, and makes no longer name or path of what precedes it
 abbrev pub binds_at_most : ℕ → Option SyntaxKind → Bool
 binds_at_most h None = true
 binds_at_most h (Some k) = if is_bound k then false else nat_le (binding_power k) h

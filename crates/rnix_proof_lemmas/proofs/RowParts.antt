@@ -62,7 +62,7 @@ remaining_followed (Argument · r) h x next = absurd (cc)
 remaining_followed (_ · r) h x next = tt
 remaining_followed _ h x next = tt
 
--- the level that such a part requires does not depend on the tree before it
+-- the level that such a part requires does not depend on the tree that is read there
 pub left_level : (r : Row) → is_remaining r ≡ true → (x : AnnotatedForest) → level_at r x ≡ level_at r blank
 left_level (Argument · r) h x = absurd (cc)
 left_level _ h x = refl
@@ -71,7 +71,7 @@ left_level _ h x = refl
 pub remaining_no_operand : (r : Row) → is_remaining r ≡ true → counts r ≡ false → level_at r blank ≡ None → HasNoOperand r
 remaining_no_operand r i c l = no_operand r (λ x. left_level r i x ∙ l) c
 
--- whether such a part expects its first item does not depend on the tree after it
+-- whether a node's first item is expected at such a part does not depend on the node's children
 pub remaining_first_expected : (r : Row) → is_remaining r ≡ true → (k : SyntaxKind) (c : AnnotatedForest)
     → is_first_expected r k c ≡ is_first_expected r k blank
 remaining_first_expected (Argument · r) h k c = absurd (cc)

@@ -20,7 +20,7 @@ pub parted : (until : ExpectedSet) (ts : List Token) → Parted until ts (run_of
 parted until [] = record { all = refl; unwanted = tt; stops = refl }
 parted until (t ∷ ts) = parted_by until t ts (is_wanted until t.kind) refl (parted until ts)
 
--- a run that begins with an item that is not wanted
+-- a run begins with the next item, if that is not wanted
 pub run_begins : (until : ExpectedSet) (t : Token) (ts : List Token) → is_wanted until t.kind ≡ false → run_of until (t ∷ ts) ≡ t ∷ run_of until ts
 run_begins until t ts e = ap (λ w. if w then [] else t ∷ run_of until ts) e
 

@@ -35,7 +35,7 @@ frame_kind_of_head (Node k) = frame_kind_of_node k
 frame_kind_of_head SecondBind = SecondBindFrame
 frame_kind_of_head Operand = OperandFrame
 
--- what may be inside what: nothing inside a second name, no operand in a pattern itself, an entry inside a pattern, the root inside nothing
+-- what may be inside what: nothing inside a second name, no operand in a pattern itself, an entry only inside a pattern, the root inside nothing
 abbrev pub may_hold : FrameKind → FrameKind → Bool
 may_hold SecondBindFrame s = false
 may_hold s Root = false

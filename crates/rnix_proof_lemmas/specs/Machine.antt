@@ -126,7 +126,7 @@ abbrev pub closed : Frame → List Frame → List Token → ℕ → List Fault �
 closed f [] ts n es = machine (f ∷ []) ts n es
 closed f (g ∷ fs) ts n es = machine (put g.position (g.children ⊕ made f.head f.children) g ∷ fs) ts n es
 
--- a forest without trivia
+-- a forest, without its trivia where these are read
 abbrev pub without_trivia_if : Bool → AnnotatedForest → AnnotatedForest
 without_trivia_if true f = without_trivia f
 without_trivia_if false f = f

@@ -103,7 +103,7 @@ with_trivia_branch k trees ts us b h = record {
       ∙ h.remaining;
 }
 
--- an error node over a forest with trivia has its trivia, unless it is the last node of the text
+-- an error node over a forest with trivia has its trivia, unless it is that of the nesting limit
 pub with_trivia_fault : (n : Note) (trees : AnnotatedForest) (ts us : List Token) → is_last n ≡ false → HasNoLeadingTrivia ts → HasTrivia trees ts us
     → HasTrivia (one_fault n trees) ts us
 with_trivia_fault n trees ts us e b h = record { same = rw (no_leading_trivia ts b, b, e, h.same) refl; remaining = rw (b, e) h.remaining }

@@ -132,7 +132,7 @@ name_node : (k : SyntaxKind) (c f : AnnotatedForest) (x : Token) → entry_name 
 name_node NODE_IDENT c f x h = (refl, h)
 name_node _ c f x h = none_some x h
 
--- a forest is one token, perhaps with trivia around it
+-- a forest is this token alone
 pub data IsName (x : Token) : AnnotatedForest → Type 0 where
   name : (j : SyntaxKind) → IsName x (token j x blank)
 

@@ -31,7 +31,7 @@ bracket_stray range = (record { token = record { is_there = omega arith; is_toke
 wanted_token : (range : Extent) → HasFormOf list (unwanted k.TOKEN_R_PAREN range (k.TOKEN_R_PAREN ∷ [])) 3 → ⊥
 wanted_token range h = true_is_not_false (h.1 4 (record { is_there = omega arith; parent = refl })).1
 
--- it is no error about items after the text, and none about a second name
+-- it is no error about items after the root's expression, and none about a second name
 inside_list : (range : Extent) → HasFormOf list (extra range) 3 → ⊥
 inside_list range h = cc
 

@@ -1,5 +1,5 @@
--- In a reading, the error node for an operand or for a run contains only items, none of a kind that its error lists as wanted; the items after a
--- whole text are in the root, and a second name is in its pattern.
+-- In a reading, the error node for an operand or for a run contains only items, none of a kind that its error lists as wanted; the items after the
+-- root's expression are in the root, and a second name is in its pattern.
 use Rattle.std.{specs.List.list_all, proofs.Common.{◌≡◌, ℕ, Bool, true, false, List, [], ◌∷◌, ◌++◌, length, Option, Some, None, refl, ap, sym, ◌∙◌, subst, append-nil}}
 use Rattle.{std.proofs.{Common.{append_assoc, if◌then◌else◌, ◌&&◌, arith}, lemmas.Bool.and_from}, rnix_kinds.specs.declared.kinds.SyntaxKind.SyntaxKind}
 use Rattle.rnix_kinds.specs.declared.kinds.SyntaxKind.TheVariants.{NODE_APPLY, NODE_BIN_OP, NODE_ERROR, NODE_HAS_ATTR, NODE_IDENT, NODE_LITERAL}
@@ -160,8 +160,8 @@ stray_other q (t ∷ []) us f i l n o h = ((by (level_at q blank) refl o, tt), r
     by (Some level) e w = none (operand_leads level (one_fault Stray (row_of (t ∷ []))) (t ∷ (tokens_in f ++ us)) w.1)
     by None e w = none (where_one (first_is_operand q) (stray_first q i l e) h)
 
--- Below a node of the kind, an error node for an operand or for a run contains no wanted item, and for an operand just one item; one for what follows a whole
--- text is in the root, and one for a second name is in a pattern.
+-- Below a node of the kind, an error node for an operand or for a run contains no wanted item, and for an operand just one item; one for what follows the
+-- root's expression is in the root, and one for a second name is in a pattern.
 abbrev pub IsFormed : Note → SyntaxKind → AnnotatedForest → Type 0
 IsFormed Stray parent c = AreOthers operand_kinds c × (length (tokens_in c) ≡ 1)
 IsFormed (Unwanted until) parent c = AreOthers (wanted_kinds until) c

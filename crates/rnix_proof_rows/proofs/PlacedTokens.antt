@@ -19,7 +19,7 @@ abbrev pub text_in : List Token → List ℕ
 text_in [] = []
 text_in (t ∷ ts) = t.text ++ text_in ts
 
--- the text of two joined lists of tokens is as long as both texts
+-- the text of two joined lists of tokens is as long as both texts together
 pub text_in-length : (ts us : List Token) → length (text_in (ts ++ us)) ≡ length (text_in ts) + length (text_in us)
 text_in-length [] us = omega arith
 text_in-length (t ∷ ts) us = omega (arith, length-append t.text (text_in (ts ++ us)), length-append t.text (text_in ts), text_in-length ts us)

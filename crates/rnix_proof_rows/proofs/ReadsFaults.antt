@@ -135,7 +135,7 @@ joined c f g us vs ds os es ps rs t v h o w = record {
       (λ m. elim (has-++ ds os m) [ inl e ↦ w.none (none_remaining (tokens_in f) us (sym v ∙ h.last e)) | inr e ↦ absurd (o.ended e) ]);
 }
 
--- so are the errors of each forest that is read
+-- this holds of the errors of each forest that is read
 pub reads_errors : {p : SyntaxKind} {d n : ℕ} {q q' : Row} {b : AnnotatedForest} {us : List Token} {f : AnnotatedForest} {es : List Fault}
     → Reads p d n q q' b us f es → IsKnown p q → Errors f us (reports_behind b f) es
 reads_errors end i = record { reports = refl; named = tt; none = λ n. tt; last = λ h. absurd h; settled = tt }

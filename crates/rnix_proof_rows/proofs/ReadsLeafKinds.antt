@@ -38,7 +38,7 @@ reads_leaf_kinds (wrong note ts x w v s) = (run_leaf_kinds ts, reads_leaf_kinds 
 reads_leaf_kinds (second s y x) = (reads_leaf_kinds s, reads_leaf_kinds x)
 reads_leaf_kinds (inner v s y x w z t) = (reads_leaf_kinds s, reads_leaf_kinds t)
 
--- a row that begins with one child of a kind and is viable has that child
+-- where a row requires a child of one kind, only a child of that kind continues it
 one_child : (w : Bool) (r : Row) → is_viable (only w r) ≡ true → (w ≡ true) × (only w r ≡ r)
 one_child true r h = (refl, refl)
 one_child false r h = absurd (true_is_not_false (sym h))
@@ -87,7 +87,7 @@ entry_begins {d = d} {r = s} {us = us} (wrong {r = r} {f = f} note ts x o v h) w
 entry_begins (second s y h) w e a = absurd (cc)
 entry_begins (inner o s y x j z h) w e a = refl
 
--- so does each node of the kind of an entry
+-- so each name holds at most one token, and each entry of a pattern begins with its name
 single_node : (k : SyntaxKind) {d n : ℕ} {s : Row} {us : List Token} {c : AnnotatedForest} {es : List Fault} → Reads k d n (row k) s blank us c es
     → may_end s ≡ true → AreSpelled (tokens_in c) → HasSingleTokenName k c
 single_node k {d = d} {n = n} {s = s} {us = us} {c = c} {es = es} r w h = (λ e. name_single r (end_viable _ w) (ap row e), λ e. by e)

@@ -20,7 +20,7 @@ wrong_limited _ d q r ts us h = tt
 abbrev Nests : ℕ → Row → AnnotatedForest → Type 0
 Nests d q f = (d + depth_of q f ≤ depth_limit) × AreLimited d q f
 
--- a forest without nodes does so at any row
+-- a forest without nodes does so at any row if it does at one
 elsewhere : (d : ℕ) (q r : Row) (f : AnnotatedForest) → HasNoNode f → Nests d r f → Nests d q f
 elsewhere d q r blank n h = h
 elsewhere d q r (token k t f) n h = elsewhere d (after q k) (after r k) f n h
@@ -100,7 +100,7 @@ no_more true false m n k l i h j = absurd (true_is_not_false (sym (i refl)))
 no_more false true m n k l i h j = omega (arith, h, j)
 no_more false false m n k l i h j = omega (arith, h, j)
 
--- a row begins with a node
+-- a forest begins with a node
 abbrev begins_with_node : AnnotatedForest → Bool
 begins_with_node (branch k c f) = true
 begins_with_node f = false
@@ -117,7 +117,7 @@ nest_other p _ c f h r = refl
 formal_is : (k : SyntaxKind) → is_formal k ≡ true → k ≡ NODE_PAT_ENTRY
 formal_is = only is_formal NODE_PAT_ENTRY refl
 
--- so does an entry with its name
+-- an entry that begins with its name nests by kinds at most as deep as along the row
 name_bounded : (w : Bool) (m n o k l : ℕ) → m ≤ k → n ≤ l → max m n ≤ max (if w then suc (max o k) else max o k) l
 name_bounded true m n o k l h j = omega (arith, h, j)
 name_bounded false m n o k l h j = omega (arith, h, j)

@@ -14,7 +14,7 @@ use Rattle.rnix_proof_rows.proofs.{ReadsFaults.{neither_repeats, reads_errors}, 
 use Rattle.rnix_proof_rows.proofs.RepairedRows.{Simulates, simulates_self, simulates_same, simulates_both, second_simulates, after_repair, after_repair_all}
 use Rattle.rnix_proof_rows.proofs.RepairedRows.{known_after_repair, needs_token_after_repair, wrong_simulates}
 
--- what contains no token leaves a row that needs a token as it is
+-- after what contains no token, a row that needs a token still needs one
 pub needs_token_rest : {p i : SyntaxKind} {d n : ℕ} {q q' : Row} {b : AnnotatedForest} {us : List Token} {f : AnnotatedForest} {es : List Fault}
     → Reads p d n q q' b us f es → tokens_in f ≡ [] → (q0 : Row) → IsKnown i q0 → needs_token q0 ≡ true
     → needs_token (after_all q0 (kinds_of (repaired f))) ≡ true
@@ -121,7 +121,7 @@ ended_or (e ∷ es) = by_first (is_ended e) refl (ended_or es)
     by_first true h w = inr (inl h)
     by_first false h w = elim w [ inl n ↦ inl (ap (λ x. (if x then 1 else 0) + ended_count es) h ∙ omega (arith, n)) | inr n ↦ inr (inr n) ]
 
--- errors that are neither at the end nor about a misplaced token are none of them
+-- in a list without errors at the end or about misplaced tokens, none is counted
 neither_count : (es : List Fault) → NeitherEndNorMisplaced es → ended_count es ≡ 0
 neither_count es h = elim (ended_or es) [ inl n ↦ n | inr n ↦ absurd (h.ended n) ]
 

@@ -75,7 +75,7 @@ pub pattern_owes : {i : SyntaxKind} (q : Row) → IsKnown i q → is_viable (aft
 pattern_owes {i} q n l = sym (ap (λ w. if w then needs_token (after q NODE_PATTERN) else true) l) ∙
     every_known (λ i q. if is_viable (after q NODE_PATTERN) then needs_token (after q NODE_PATTERN) else true) (λ i. refl) refl i q n
 
--- what continues the second row continues the first, and the first may end if the second may
+-- what continues the second row continues the first, which may end exactly if the second may, and needs a token if the second does
 pub record Simulates (q0 q : Row) : Type 0 where
   pub goes : (k : SyntaxKind) → is_viable (after q k) ≡ true → after q0 k ≡ after q k
   pub ends : may_end q0 ≡ may_end q

@@ -44,7 +44,7 @@ stays (Many n closer) = fits n
 stays (Entries closer) = is_entry
 stays part = λ k. false
 
--- a child leads beyond a part or does not fit
+-- a child leads beyond a part, or the part is still next after it, or it does not fit
 single : (w : Bool) (q r : Row) → only w r ≡ (if w then r else only false q)
 single true q r = refl
 single false q r = refl

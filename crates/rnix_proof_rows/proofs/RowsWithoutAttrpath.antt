@@ -36,7 +36,7 @@ child_lost : (q r : Row) (e : Fault) → begins_with_child q ≡ true → missin
 child_lost (Atom · q) r e h m = absurd (cc)
 child_lost _ r e h m = absurd (cc)
 
--- each node that may be read at a row passes a test
+-- each node that may be read at a row, and whose kind passes a test, begins with a child that it always has
 abbrev leads : (SyntaxKind → Bool) → Row → Bool
 leads test r = list_all (λ k. if test k && is_viable (after r k) then begins_with_child (row k) else true) all_kinds
 
@@ -113,7 +113,7 @@ pub same_true : (v w : Bool) → v ≡ w → is_same v w ≡ true
 same_true true w e = sym e
 same_true false w e = ap (λ z. if z then false else true) (sym e)
 
--- at any other row, the next item decides, and neither the level of an operand nor what is expected depends on the tree
+-- at any other row, a reading says whether the end of the text is expected; neither a level nor what is expected depends on the tree
 abbrev Asks : Row → Type 0
 Asks q = ((n : ℕ) (own : Bool) → IsExpected q n [] own → expects_end q ≡ own) × ((x : AnnotatedForest) → level_at q x ≡ level_at q blank)
     × ((k : SyntaxKind) (c : AnnotatedForest) → is_first_expected q k c ≡ is_first_expected q k blank)

@@ -162,7 +162,7 @@ new_all : (before : List (List ℕ)) (o : Option (List ℕ)) (names : List (List
 new_all before None names = (λ h. (tt, h), λ h. h.1)
 new_all before (Some name) names = (λ h. (h.0, h.1), λ h. (h.0, h.1))
 
--- a name that is new is not reported, and one that is not is
+-- a name is reported exactly if it is not new
 new_repeated : (names : List (List ℕ)) (b : AnnotatedForest) (o : Option Token) → Lists names b → (repeated_if o b ≡ []) ↔ IsNew names (text_in o)
 new_repeated names b None h = (λ e. tt, λ e. refl)
 new_repeated names b (Some t) h = subst (λ x. ((if x then duplicated_args (extent_of (t ∷ [])) t.text ∷ [] else []) ≡ []) ↔ (is_among t.text names ≡ false))

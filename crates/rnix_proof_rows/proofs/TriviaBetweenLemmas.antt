@@ -11,7 +11,7 @@ trimmed_parts empty g h = (tt, h)
 trimmed_parts (leaf k t f) g h = trimmed_parts f g h
 trimmed_parts (node k c f) g h = let w = trimmed_parts f g h.3 in ((h.0, h.1, h.2, w.0), w.1)
 
--- an empty list is the only one that begins with an item among trivia
+-- among trivia, only the empty list does not begin with trivia
 none_of_trivia : (ks js : List SyntaxKind) → AreTrivia (ks ++ js) → BeginsWithItem ks → ks ≡ []
 none_of_trivia [] js h b = refl
 none_of_trivia (k ∷ ks) js h b = absurd (true_is_not_false (sym h.0 ∙ b))
@@ -56,7 +56,7 @@ ends_last (leaf k t f) js ks h e i =
 ends_last (node k c f) js ks h e i =
     subst EndsWithItem (append_assoc (js ++ ks) (leaf_kinds c) (leaf_kinds f)) (ends_last f (js ++ ks) (leaf_kinds c) h.3 (λ o. h.1) i)
 
--- trivia between the children of a node are between trimmed trees
+-- where no node begins or ends with trivia, trivia between tokens in different children of a node are children of it
 pub row_trivia_between : (c : Forest) → AreNodesTrimmed c → HasTriviaBetween c
 row_trivia_between c h = λ x y z e i t j.
     let w = trimmed_parts x (join y z) (subst AreNodesTrimmed e h) in

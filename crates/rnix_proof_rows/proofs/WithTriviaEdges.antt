@@ -14,7 +14,7 @@ use Rattle.rnix_proof_rows.proofs.{ReadsFilled.{AreFilled, AreFaultsFilled, rows
 abbrev IsEdged : AnnotatedForest → Type 0
 IsEdged f = BeginsWithItem (kinds_in f) × EndsWithItem (kinds_in f)
 
--- so does each node of a forest, apart from error nodes
+-- so does each node of a forest, and none is an error node
 abbrev pub AreEdged : AnnotatedForest → Type 0
 AreEdged blank = Unit {0}
 AreEdged (token k t f) = AreEdged f
@@ -165,7 +165,7 @@ ends_alike none b = tt
 ends_alike (both e none) b = e ∙ b
 ends_alike (both e (both {j = j} {k = k} f h)) b = ends_alike (both {j = j} {k = k} f h) b
 
--- a leaf is trivia exactly if its token is
+-- below a name, a leaf is trivia exactly if its token is
 name_alike : (k : SyntaxKind) → is_trivia (leaf_kind_as NODE_IDENT k) ≡ is_trivia k
 name_alike TOKEN_OR = refl
 name_alike _ = refl

@@ -17,7 +17,7 @@ trivia_unwanted : (until : ExpectedSet) (k : SyntaxKind) → is_trivia k ≡ tru
 trivia_unwanted RParen = not_trivia (wanted_kinds RParen) refl
 trivia_unwanted until = not_trivia (wanted_kinds until) refl
 
--- so trivia between tokens of other kinds leave them tokens of other kinds
+-- so a forest of tokens that are not wanted is still one with its trivia
 others_if : (kinds : List SyntaxKind) → ((k : SyntaxKind) → is_trivia k ≡ true → is_one_of kinds k ≡ false) → (w : Bool) (k : SyntaxKind) (t : Token)
     (f g : AnnotatedForest) → is_trivia t.kind ≡ w → k ≡ t.kind → (AreOthers kinds g → AreOthers kinds f) → AreOthers kinds (token_if w k t g)
     → (is_one_of kinds k ≡ false) × AreOthers kinds f

@@ -91,12 +91,12 @@ skips Extra d q r ts us w = w.2
 skips DoubleBind d q r ts us w = absurd w
 skips _ d q r ts us w = tt
 
--- the trees after the repair of an error node contain no accepted extension if all do
+-- if what repairs an error node and the trees after it contain no accepted extension, these trees contain none
 extensions_behind : (m : Note) (k : SyntaxKind) (f : Forest) → has_no_extension k (repair m f) ≡ true → has_no_extension k f ≡ true
 extensions_behind Stray k f h = h
 extensions_behind _ k f h = assumption
 
--- a call of `or` calls an atom
+-- where the argument of a call is the name `or`, the function is an atom
 module _ (b : AnnotatedForest) (k : SyntaxKind) (c : AnnotatedForest) (n : ℕ) where
   or_called : (r : Row) (ts : List Token) → IsExpected (p.Argument · r) n ts true → IsFollowed (p.Argument · r) b (head_kind ts) → is_atom_row b ≡ true
   or_called r [] x y = absurd (true_is_not_false (sym x))

@@ -12,7 +12,7 @@ use Rattle.rnix_proof_soundness.proofs.RowViews.{Braces, closed, dotted, last, c
 use Rattle.rnix_grammar.specs.Grammar as G
 use Rattle.rnix_kinds.specs.declared.kinds.SyntaxKind.TheVariants as K
 
--- no entry of a pattern has the name of one before it
+-- no entry of a pattern has one of these names, or the name of an entry before it
 abbrev pub are_entries_new : List (List ℕ) → Forest → Bool
 are_entries_new names empty = true
 are_entries_new names (leaf k t f) = are_entries_new names f

@@ -141,7 +141,7 @@ abbrev pub is_optional : Row → Bool
 is_optional (p.Optional w · r) = true
 is_optional r = false
 
--- the children of a node, after the first operand of an operator, a call or a selection
+-- the children from this rest of a row on, by their forms; of operations, calls and selections only what follows the operator, `.` or `?`
 abbrev pub View : SyntaxKind → Row → Forest → Type 0
 View parent never = λ f. ⊥
 View parent ((p.Child w · r) or (p.Child v · s)) = λ f. One (is_token w) w ((p.Child w · r) or (p.Child v · s)) (View parent r) f
@@ -198,7 +198,7 @@ module _ (parent : SyntaxKind) where
   over_here q o d (node_started {k = k} {f = f} i m a h) = lost (subst (λ r. GrammarRow parent r f) (d k) h)
   over_here _ o d (passed h) = absurd (true_is_not_false o)
 
-  -- a row has the children of another one that continues with the same children
+  -- the children from `s` on are also children from `q` on, if `q` may end and continue wherever `s` may
   pub alike : (q s : Row) → is_optional s ≡ false → (may_end s ≡ true → may_end q ≡ true)
       → ((k : SyntaxKind) (c : Forest) → Fits parent s k c → Fits parent q k c)
       → ((H : Row → Type 0) (k : SyntaxKind) → ((r : Row) → H never → H r) → H (after s k) → H (after q k)) → {f : Forest} → GrammarRow parent s f

@@ -16,7 +16,7 @@ use Rattle.rnix_proof_soundness.proofs.{RowViews.{GrammarRow, ended, leaf_node_m
 use Rattle.rnix_grammar.specs.Tables as tables
 use Rattle.rnix_grammar.specs.declared.rules.Part.TheVariants as p
 
--- a spelled token is a token as a leaf
+-- a spelled token has the kind of a token, and so has its leaf
 spelled_token : (kind : SyntaxKind) (text : List ℕ) → is_spelled kind text ≡ true → is_token kind ≡ true
 spelled_token TOKEN_OR text h = refl
 spelled_token TOKEN_IDENT text h = refl
@@ -43,7 +43,7 @@ Tokens NODE_PAT_ENTRY c = IsEntry c
 Tokens NODE_PAT_BIND c = begins_with_leaf (repaired c) ≡ begins_with_token c
 Tokens k c = Unit {0}
 
--- a call of `or` calls an atom
+-- where the argument of a call is the name `or`, the function is an atom
 abbrev pub Calls : Row → AnnotatedForest → AnnotatedForest → Type 0
 Calls (p.Argument · r) b x = is_or_row x ≡ true → is_atom_row b ≡ true
 Calls q b x = Unit {0}

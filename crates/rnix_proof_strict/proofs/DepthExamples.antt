@@ -77,7 +77,7 @@ names :
     ≡ false ∷ true ∷ true ∷ false ∷ false ∷ false ∷ true ∷ true ∷ true ∷ false ∷ []
 names = refl
 
--- the repair of an error node for a stray item
+-- the repair of an error node for a stray item, and of one for extra items
 stray_repaired : repaired (one_fault Stray (one_token TOKEN_OR or_token)) ≡ node NODE_LITERAL (leaf TOKEN_INTEGER (codes "0") empty) empty
 stray_repaired = refl
 

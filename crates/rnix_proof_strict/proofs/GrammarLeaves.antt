@@ -26,7 +26,7 @@ node_first n c f = record { tokens = and_from _ _ c.tokens f.tokens; extension =
 one_token : {parent k : SyntaxKind} {t : List ℕ} → is_token k ≡ true → IsFine parent (leaf k t empty)
 one_token i = token_first i fine_end
 
--- no atom is a lambda, and no simple attribute an interpolation
+-- no atom is a lambda, and no expression a dynamic attribute
 no_lambda : {c : Forest} → G.Atom NODE_LAMBDA c → ⊥
 no_lambda h = elim h [ ]
 

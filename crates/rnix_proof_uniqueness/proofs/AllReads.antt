@@ -24,7 +24,7 @@ same_end here s u v = stays u s
 same_end (further r) here u v = sym (stays v (further r))
 same_end (further r) (further s) u v = same_end r s u v
 
--- the index at which the root's row is complete, with one tree
+-- the index at which the root's row is complete; the root's frame there
 abbrev pub root_end : ℕ
 root_end = suc ROOT
 

@@ -46,7 +46,7 @@ function_of c b f = node NODE_LAMBDA (node NODE_PATTERN c b) f
 abbrev pub entry : Grows
 entry f = node NODE_PAT_ENTRY (name done) f
 
--- a parenthesis, given what follows its first item
+-- parentheses, given what follows the opening one
 abbrev pub paren : Shape → Grows
 paren c f = node NODE_PAREN (item c) f
 
@@ -62,7 +62,7 @@ unwanteds until n f = wrong (Unwanted until) (run n) f
 abbrev pub extras : ℕ → Shape
 extras n = wrong Extra (run n) done
 
--- from a byte to another
+-- a range, from one offset to another
 abbrev pub within : ℕ → ℕ → Extent
 within start end = record { start = start; end = end }
 

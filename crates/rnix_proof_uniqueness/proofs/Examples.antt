@@ -18,7 +18,7 @@ selection = record { text = codes "a.b)"; right = (select name path (extras 1), 
 abbrev pub body : Case
 body = record { text = codes "x: x+b)"; right = (function (binary name name) (extras 1), is_extra 6 7 ∷ []) }
 
--- `(a`: a name in a parenthesis
+-- `(a`: a name in parentheses, which are not closed
 abbrev pub shallow : Case
 shallow = record { text = codes "(a"; right = (paren (name done) done, missing RParen ∷ []) }
 

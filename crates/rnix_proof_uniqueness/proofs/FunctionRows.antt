@@ -18,7 +18,7 @@ use Rattle.rnix_proof_uniqueness.proofs.OperandBegins.{begins_led, begins_so, fo
 use Rattle.rnix_grammar.specs.declared.position.Position.TheVariants as p
 use Rattle.rnix_grammar.specs.declared.operand_start.OperandStart.TheVariants as b
 
--- an item that begins no operand
+-- the steps read an item that begins no operand, as an error node
 pub stray_reads : (t : Token) (d n : ℕ) (us : List Token) → ReadsTree d n (t ∷ []) (one_fault Stray (row_of (t ∷ []))) us (report Stray (t ∷ []) ∷ [])
 stray_reads t d n us level F fs gs min_bp begins = record {
   max_bp = 16;
@@ -110,7 +110,7 @@ legacy_reads m rows d n us c es r =
 abbrev Body : SyntaxKind → ℕ → ℕ → AnnotatedForest → List Token → AnnotatedForest → List Fault → Type 0
 Body k d n c us f es = ReadOn NODE_LAMBDA d (end_from n (tokens_in c)) (p.InRow LAMBDA) (one_branch k c) us f es
 
--- the steps read a function of a parameter
+-- the steps read a function of a parameter, if they read the rest of its row
 abbrev IsFunction : SyntaxKind → ℕ → ℕ → AnnotatedForest → AnnotatedForest → List Token → List Fault → List Fault → Type 0
 IsFunction k d n c f us ds es = Body k d n c us f es → ReadsTree d n (tokens_in c ++ tokens_in f) (one_branch NODE_LAMBDA (branch k c f)) us ((ds ++ []) ++ es)
 
@@ -279,7 +279,7 @@ lambda_first NODE_IDENT_PARAM h = inl refl
 lambda_first NODE_PATTERN h = inr refl
 lambda_first _ h = absurd (true_is_not_false (sym h))
 
--- the parameter of a function and the rest of its row are read
+-- the steps read a function, from readings of its parameter and of the rest of its row
 abbrev Parameter : ℕ → ℕ → ℕ → List Token → AnnotatedForest → AnnotatedForest → List Fault → List Fault → SyntaxKind → Type 0
 Parameter m d n us c f ds es k =
     Complete m k d n (row_of_kind k) blank (tokens_in f ++ us) c ds

@@ -18,7 +18,7 @@ use Rattle.rnix_grammar.specs.declared.position.Position.TheVariants as p
 use Rattle.rnix_grammar.specs.declared.action.Action.TheVariants as a
 use Rattle.rnix_grammar.specs.declared.operand_start.OperandStart.TheVariants as b
 
--- if an item continues a tree, the action does so, where the tree's level allows it
+-- if an item continues a tree, so does the action, where the operand's level allows it
 pub goes : (level max_bp : ℕ) (i : SyntaxKind) (x : AnnotatedForest) → FollowedTo max_bp x → follows i x ≡ true → level ≤ binding_power i
     → more_action level max_bp (Some i) ≡ continue_action i
 goes level max_bp i x b f l =

@@ -87,7 +87,7 @@ firm (Argument · r) h = (refl, refl, refl, refl)
 firm (r or s) h = (refl, refl, refl, refl)
 firm _ h = absurd (cc)
 
--- complete readings at equal positions
+-- a complete reading is also one at an equal position, after equal trees
 pub complete_to : {m n : ℕ} {p : SyntaxKind} {d : ℕ} {q r : Row} {b c : AnnotatedForest} {us : List Token} {f : AnnotatedForest} {es : List Fault}
     → r ≡ q → c ≡ b → Complete m p d n r c us f es → Complete m p d n q b us f es
 complete_to {m} {n} {p} {d} {q} {b = b} {c} {us} {f} {es} u v h = subst (λ b. Complete m p d n q b us f es) v (subst (λ q. Complete m p d n q c us f es) u h)
@@ -193,7 +193,7 @@ item_next h (by_leaf e y l r) = leaf_item e y l r
 item_next {q = q} h (by_stray o y z l r) = absurd (true_is_not_false (no_node_row q h NODE_LITERAL l))
 item_next {q = q} h (by_node {k = j} r y v i l r') = absurd (true_is_not_false (sym (complete_viable r) ∙ no_node_row q h j l))
 
--- an item comes next and is the last of its row
+-- if the row ends after the next item, nothing follows it, and there is no error
 pub item_alone : {m : ℕ} {k : SyntaxKind} {d : ℕ} {q : Row} {b : AnnotatedForest} {us : List Token} {f : AnnotatedForest} {es : List Fault}
     (w : Item m k d q b us f es)
     → after q (leaf_kind k w.item) ≡ done → (f ≡ one_token (leaf_kind k w.item) w.item) × (es ≡ [])

@@ -50,7 +50,7 @@ called zs xs x v i d n us es ds one next arg follow tree passed plain tight begu
     level : row_level z ≡ 15
     level = call_level x v false one plain
 
--- the steps read a call of the name `or`
+-- the steps read a call whose argument is the name `or`, if they read the function
 called_or : (zs : List Token) (x : AnnotatedForest) (t : Token) (d n : ℕ) (us : List Token) (es : List Fault) → IsSingle x → t.kind ≡ TOKEN_OR
     → follows t.kind x ≡ true
     → is_or_row (one_branch NODE_IDENT (one_token (leaf_kind NODE_IDENT t) t)) ≡ true → ReadsTree d n zs x (t ∷ us) es
@@ -95,7 +95,7 @@ no_called_token {n = n} {us = us} j t (by_node {k = i} {c = c} {f = g} r y w x l
     by (v ∷ vs) e w = follows_token v.kind j t blank (followed v.kind (one_token j t)
         (subst (λ z. IsFollowed (Argument · done) (one_token j t) (head_kind z)) e w)).1
 
--- the steps read a call of a tree, if they have read the tree
+-- the steps read a call, of a tree with an argument
 abbrev Called : ℕ → ℕ → List Token → AnnotatedForest → List Token → List Fault → List Token → AnnotatedForest → List Fault → Type 0
 Called d n zs x us es xs v ds = ReadsTree d n (zs ++ xs) (one_branch NODE_APPLY (x ⊕ v)) us (es ++ ds)
 
@@ -114,7 +114,7 @@ argument d n zs xs x v us es ds one reads o w plain tight begun over tree = by (
         let f = followed t.kind x w in called zs xs x v t.kind d n us es ds one (ap head_kind h)
         (plainly (is_fn_arg t.kind) (is_or t.kind) f.0 o) f.1 reads tree plain tight begun over
 
--- the steps read a call with the name `or`
+-- the same for the argument `or`, from a reading of the name
 name_or : (m d n : ℕ) (zs : List Token) (x : AnnotatedForest) (j : SyntaxKind) (c : AnnotatedForest) (us : List Token) (es ds : List Fault) → IsSingle x
     → ReadsTree d n zs x (tokens_in c ++ us) es → Complete m j d (end_from n zs) (row_of_kind j) blank us c ds
     → IsFollowed (Argument · done) x (head_kind (tokens_in c ++ us))
@@ -135,7 +135,7 @@ name_or m d n zs x j c us es ds one reads r w h =
         → Called d n zs x us es (tokens_in g) (one_branch NODE_IDENT g) []) (sym v.1)
         (λ reads w h. called_or zs x v.0 d n us es one (only is_or TOKEN_OR refl v.0.kind h) (followed v.0.kind x w).1 h reads) reads w h)
 
--- the argument is the last child of its node
+-- the steps read a call, from a reading of its argument
 last_reads : (m d n : ℕ) (zs : List Token) (x : AnnotatedForest) (us : List Token) (f : AnnotatedForest) (es ds : List Fault) → Trees m → IsSingle x
     → ReadsTree d n zs x (tokens_in f ++ us) es → Front m NODE_APPLY d (end_from n zs) (Argument · done) x us f ds → Called d n zs x us es (tokens_in f) f ds
 last_reads m d n zs x us _ es _ trees one reads (by_leaf {k = i} e w l r) =
