@@ -77,7 +77,7 @@ entries_open (binding (bind a d) r) h vs (over_node {f = k} (over_node {b = c} o
     ap opens_pattern (append_assoc (tokens_in c ++ (x ∷ tokens_in f)) (tokens_in k) vs ∙ append_assoc (tokens_in c) (x ∷ tokens_in f) (tokens_in k ++ vs))
     ∙ path_opens a c (x ∷ (tokens_in f ++ (tokens_in k ++ vs))) o (ap (λ z. is_no_tail (Some z)) e)
 
--- these items begin an expression with the parameter
+-- the first tree of an expression that begins with these items has the kind
 abbrev pub BeginsWith : SyntaxKind → List Token → Type 0
 BeginsWith k [] = ⊥
 BeginsWith k (t ∷ ts) = first_kind 0 t.kind t.text (head_kind ts) (second_kind ts) ≡ k

@@ -70,7 +70,7 @@ BeginsTree b.BoundLambda level kind second = (kind ≡ TOKEN_IDENT) × (second �
 BeginsTree b.PatternLambda level kind second = kind ≡ TOKEN_L_BRACE
 BeginsTree b.Stray level kind second = Unit {0}
 
--- a node over one token is not the name `or`, if it is none by its token
+-- a node over one token is not the name `or`, if its leaf keeps the token's kind or the token is not `or`
 pub leaf_no_or : (k j : SyntaxKind) (t : Token) → (if is_error k then is_or t.kind else false) ≡ false → is_or_row (one_branch k (one_token j t)) ≡ false
 leaf_no_or NODE_IDENT j t h = h
 leaf_no_or _ j t h = refl

@@ -125,7 +125,7 @@ operated (k ∷ ks) = with_row (after (Binary · done) k) (operated ks)
 abbrev several : List SyntaxKind
 several = NODE_LITERAL ∷ (NODE_ATTR_SET ∷ (NODE_LAMBDA ∷ (NODE_PATTERN ∷ (NODE_PAT_BIND ∷ (NODE_UNARY_OP ∷ [])))))
 
--- the rows of each kind
+-- the rests of rows, each with the kind of its node
 abbrev pub known_rows : List (SyntaxKind × Row)
 known_rows = lefts SLOTS ((NODE_ERROR, second_name) ∷ begun several (operated all_kinds))
 

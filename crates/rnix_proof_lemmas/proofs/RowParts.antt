@@ -42,7 +42,7 @@ front (First m · r) h = record { expected = λ n ts own. tt; followed = λ x ne
 front (r or s) h = record { expected = λ n ts own. tt; followed = λ x next. tt; no_operand = no_operand (r or s) (λ x. refl) refl }
 front _ h = absurd (cc)
 
--- what a row may expect at a position: a part that may be missing, or one before which the reader may be
+-- the row begins with a part at which the reader may be: none that its node always has, and a series only up to a token
 abbrev pub is_remaining : Row → Bool
 is_remaining (Child kind · r) = false
 is_remaining (Atom · r) = false

@@ -4,7 +4,7 @@ use Rattle.rnix_grammar.specs.{declared.expected_set.ExpectedSet.ExpectedSet, Ta
 use Rattle.rnix_proof_lemmas.specs.Machine.{dropped}
 use Rattle.{rnix_grammar.specs.ErrorNodes.AreUnwanted, rnix_proof_lemmas.proofs.Basics.true_is_not_false}
 
--- a run, the items after it, and the first of these, which is wanted
+-- a run, the items after it, and the first of these, if any, which is wanted
 pub record Parted (until : ExpectedSet) (ts run : List Token) : Type 0 where
   pub all : ts ≡ run ++ dropped run ts
   pub unwanted : AreUnwanted until run

@@ -21,7 +21,7 @@ errors-++ t [] fs (m ∷ ms) ns h k = absurd h
 errors-++ t (e ∷ es) fs [] ns h k = absurd h
 errors-++ t (e ∷ es) fs (m ∷ ms) ns h k = (h.0, errors-++ t es fs ms ns h.1 k)
 
--- what is known of a forest in a tree: its tokens are placed, and its error nodes have tokens
+-- what is known of a forest in a tree: its tokens are placed, its leaves and names are as required, and its error nodes have tokens and their forms
 pub record IsSound (q : SyntaxKind) (s : ℕ) (f : AnnotatedForest) : Type 0 where
   pub placed : ArePlaced s (tokens_in f)
   pub leaf_kind : HaveLeafKinds q f

@@ -23,7 +23,7 @@ abbrev may_lead : Bool → SyntaxKind → Bool
 may_lead true kind = if is_one_of operand_kinds kind then false else true
 may_lead false kind = true
 
--- nor does the first of some items, if these are read as a tree of the kind
+-- the same for the first of some items, by the kind of the tree that it begins
 abbrev MayLead : SyntaxKind → List Token → Type 0
 MayLead k [] = Unit {0}
 MayLead k (t ∷ ts) = may_lead (is_error_node k) t.kind ≡ true

@@ -83,7 +83,7 @@ is_first r = false
 abbrev pub Fronts : SyntaxKind → Row → AnnotatedForest → List Token → Type 0
 Fronts p q f ts = Where (is_first q) (MayBegin (first_tree (one_branch p f)) ts)
 
--- the first item may be a name of the kind, where the row allows names
+-- if a node of the kind is a name or `__curPos`, the row allows it to begin with the first item
 abbrev pub Names : Row → SyntaxKind → List Token → Type 0
 Names q k [] = Unit {0}
 Names q k (t ∷ ts) = is_named_by q k t ≡ true

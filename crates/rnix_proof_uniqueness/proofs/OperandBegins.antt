@@ -108,7 +108,7 @@ BegunBy i how = Unit {0}
 begins_by : (level : ℕ) (i : SyntaxKind) (text : List ℕ) (second third : Option SyntaxKind) → BegunBy i (operand_start_of level i text second third)
 begins_by = each_first_tree (λ i second k. BegunBy i (operand_start_for k i)) (λ second. assumption)
 
--- the action at the first items gives the kind of the first tree
+-- the kind of the first tree and the first item determine how the reader begins the operand
 pub begins_so : (k : SyntaxKind) (level : ℕ) (t : Token) (ts : List Token) → first_kind level t.kind t.text (head_kind ts) (second_kind ts) ≡ k
     → (operand_start_of level t.kind t.text (head_kind ts) (second_kind ts) ≡ operand_start_for k t.kind) × BegunBy t.kind (operand_start_for k t.kind)
 begins_so k level t ts e =
