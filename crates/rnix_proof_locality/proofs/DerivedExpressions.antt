@@ -10,7 +10,7 @@ use Rattle.rnix_proof_locality.specs.{Expressions.{Expression, is_expression_nod
 use Rattle.rnix_proof_locality.proofs.{StrictExpressions.{path_begins, IsStrict, AreStrict, strict_kind, root_strict}, PathsAlone.{path_before, paths_before}}
 use Rattle.rnix_grammar.specs.Grammar as G
 
--- no tokens of its own follow the trees of a forest
+-- after the trees of a forest, only the tokens that follow its own are left
 beyond_own : (f : AnnotatedForest) (us : List Token) → HaveTokenKinds f → beyond (forget f) (tokens_in f ++ us) ≡ us
 beyond_own blank us v = refl
 beyond_own (token k t f) us v = beyond_own f us v.2

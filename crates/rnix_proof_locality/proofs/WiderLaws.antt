@@ -1,4 +1,4 @@
--- Two laws that do not hold: the name `or` is not read alone as it is, and neither is each expression of a broken text.
+-- Two laws that do not hold: that the name `or` is read alone as it is, and that each expression of a broken text is.
 use Rattle.std.{proofs.Common.{◌≡◌, ◌≤◌, ◌<◌, ℕ, false, List, [], ◌∷◌, ◌++◌, refl, sym, subst, codes, arith}, specs.{List.All, Str.chars, Char.encode_utf8}}
 use Rattle.rnix_kinds.specs.Lexical.{Tokens.{tokens_of, normal_cut, cut_at, tokens_behind}, Texts.{space_len, begins_space, char_len}}
 use Rattle.rnix_kinds.specs.declared.kinds.SyntaxKind.{SyntaxKind, TheVariants.{TOKEN_ASSIGN, TOKEN_IDENT, TOKEN_INTEGER, TOKEN_L_BRACE, TOKEN_L_PAREN}}

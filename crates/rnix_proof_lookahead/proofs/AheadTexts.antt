@@ -24,7 +24,7 @@ same_completed x y a b k alike t u ds es r s =
 in_order : (x : List ℕ) → AreOrdered 0 (items_of x)
 in_order x = ordered_items 0 (placed_from 0 (tokens_of x)) (ordered_placed 0 (tokens_of x))
 
--- two texts have the same errors about unexpected items, up to a byte
+-- the first `k` items of two lists are the same, and the next ones have the same kind and touch alike, or there are none
 abbrev SameBefore : ℕ → List Token → List Token → Type 0
 SameBefore k ts us = (take k ts ≡ take k us) × AreNext (end_from 0 (take k ts)) (drop k ts) (drop k us)
 

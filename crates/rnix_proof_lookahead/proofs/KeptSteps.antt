@@ -137,7 +137,7 @@ begun_kept how level d t f fs ts n es = by how
     old : Forest
     old = trees_in (f ∷ fs)
 
-    -- an empty frame, or two, add no trees
+    -- one or two empty frames add no trees
     one : (x : Forest) → join (join old empty) x ≡ join old x
     one x = ap (λ z. join z x) (join_empty old)
 

@@ -81,7 +81,7 @@ took zero ts x xs h = refl
 took (suc k) [] x xs h = absurd (not_nil (sym h))
 took (suc k) (t ∷ ts) x xs h = ap suc (took k ts x xs h)
 
--- the law for the steps over items that begin with the first `k` of other items, and continue with one of the same kind
+-- the first `k` items complete the same trees, and if the items after them are in order, the errors before byte `e` are the same
 abbrev pub SameAt : ℕ → ℕ → AnnotatedForest → AnnotatedForest → List Fault → List Fault → List Token → List Token → Type 0
 SameAt k e f g ds es us vs =
     (completed k (forget f) ≡ completed k (forget g)) × (AreOrdered e us → AreOrdered e vs → errors_before e ds ≡ errors_before e es)

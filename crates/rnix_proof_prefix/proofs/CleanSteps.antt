@@ -56,7 +56,7 @@ quiet _ trees below e = tt
 no_error : (es : List Fault) (e : Fault) → es ++ e ∷ [] ≡ [] → es ≡ []
 no_error es e h = none_remaining es (e ∷ []) h
 
--- completing a frame leaves no error and nothing to report only if there was none
+-- if there is no error and none to report after completing a frame that has none to report, there was none before
 closed_clean : (f : Frame) (fs : List Frame) (ts : List Token) (n : ℕ) (es : List Fault) → IsClean f.head f.children (row_below fs)
     → HasNone (closed f fs ts n es) → HasNone (machine (f ∷ fs) ts n es)
 closed_clean f [] ts n es c w = w

@@ -28,7 +28,7 @@ module _ (m : ℕ) (xs zs : List Token) (late : AreFrom m xs) where
 
   -- both lists are read to their ends, the second without errors
   module _ (first second : Machine) (over : first.remaining ≡ []) (done : second.remaining ≡ []) (none : HasNone second) where
-    -- from machines with the same frames and shared items on, the errors of the first list begin after the shared items
+    -- from machines with the same frames and shared items on, the errors of the first list begin after these items, unless they end undecided
     together : {here there : Machine} (fs : List Frame) (q : List Token) (n : ℕ) (es : List Fault) → Runs false here first → Runs false there second
         → here ≡ machine fs (q ++ xs) n es → there ≡ machine fs (q ++ zs) n es → AreStacked fs → HasLate 0 here → end_undecided q ≡ false
         → BeginAllFrom m first.faults
@@ -57,7 +57,7 @@ from_start : (ts : List Token) → AreFrom 0 ts
 from_start [] = tt
 from_start (t ∷ ts) = (omega arith, from_start ts)
 
--- if some items begin like others that are read without errors, their errors begin after the shared items
+-- if some items begin like others that are read without errors, their errors begin after the shared items, unless these end undecided
 pub late_errors : (m : ℕ) (q xs zs : List Token) (first second : Machine) → AreFrom m xs → end_undecided q ≡ false
     → Runs false (initial_machine (q ++ xs)) first → Runs false (initial_machine (q ++ zs)) second → first.remaining ≡ [] → second.remaining ≡ []
     → HasNone second

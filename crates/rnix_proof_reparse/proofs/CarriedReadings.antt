@@ -158,7 +158,7 @@ module _ {k l r : SyntaxKind} (w : IsBracketed k l r) {c e : AnnotatedForest} wh
       (none_right ds (repeats j b x) none)
       (carry h (none_right (ds ++ repeats j b x) es z) m deep.behind (kept_first (one_branch j x) kept) vs sees)
 
--- if the row is complete after a forest, no more trees are read
+-- if no trees are read and there are no errors, the row stays as it is
 nothing_more : {p : SyntaxKind} {d n : ℕ} {q q' : Row} {b : AnnotatedForest} {us : List Token} {f : AnnotatedForest} {es : List Fault}
     → Reads p d n q q' b us f es → f ≡ blank → es ≡ [] → q ≡ q'
 nothing_more end e z = refl

@@ -122,7 +122,7 @@ balanced_behind {k} {l} t x b r u {d} {n} {s} {us} h within e =
 same_text : (ts us : List Token) → map lexeme_of ts ≡ map lexeme_of us → tokens_text ts ≡ tokens_text us
 same_text ts us e = sym (texts_lexemes ts) ∙ ap texts e ∙ texts_lexemes us
 
--- lexemes with others before the last
+-- joining three lists of lexemes gives the same list whichever two are joined first
 join_lexemes : (first : List Lexeme) (t : Lexeme) (head more : List Lexeme) → (first ++ (t ∷ head)) ++ more ≡ first ++ (t ∷ (head ++ more))
 join_lexemes first t head more = append_assoc first (t ∷ head) more
 

@@ -21,7 +21,7 @@ raised d [] = []
 raised d (Interpolation n ∷ modes) = Interpolation (n + d) ∷ modes
 raised d (mode ∷ modes) = mode ∷ modes
 
--- the same modes are open over `p` in one stack and over `q` in the other, `d` of them in all
+-- the same modes are open over `p` in one stack and over `q` in the other, with `d` open levels in all
 pub data AreOver (p q : List Mode) : List Mode → List Mode → ℕ → Type 0 where
   normal : (d : ℕ) → is_inside (top p) ≡ false → is_inside (top q) ≡ false → AreOver p q (raised d p) (raised d q) d
   string : (m : Bool) → top p ≡ Some (Quoted m) → top q ≡ Some (Quoted m) → AreOver p q p q 0

@@ -65,7 +65,7 @@ module _ (o : List ℕ) (bracket : BeginsBracket o) (s r : List ℕ) where
         more = omega (arith, length-append q (o ++ r), length-append o r, bracket.some);
       }
 
-  -- no piece follows the content of a string
+  -- if no piece follows the content of a string, none does before another text
   stops_alike : (m : Bool) (cut : Cut) (modes : List Mode) (tokens : List Lexeme) (after : List Mode) → AreCut (o ++ s) (changed cut.change modes) tokens after
       → StopsAlike after → top modes ≡ Some (Quoted m) → cut.change ≡ Stay → piece_len m (texts tokens ++ (o ++ s)) ≡ 0
       → piece_len m (texts tokens ++ (o ++ r)) ≡ 0

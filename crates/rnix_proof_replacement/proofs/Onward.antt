@@ -17,7 +17,7 @@ use Rattle.rnix_kinds.specs.Lexical.{Numbers.{exponent_digits, exponent, number}
 use Rattle.rnix_kinds.specs.Lexical.Tokens.{first_that_fits, normal_cut}
 use Rattle.rnix_proof_replacement.specs.Replaced.{opens_level, closes_level}
 
--- the token neither opens a mode nor closes one
+-- the token neither opens a level nor closes one
 abbrev pub is_neutral : SyntaxKind → Bool
 is_neutral kind = not (opens_level kind) && not (closes_level kind)
 

@@ -84,7 +84,7 @@ pub fits_later : (rule : Option Cut) (rules : List (Option Cut)) (last : Cut) {c
     → first_that_fits (rule ∷ rules) last ≡ cut
 fits_later rule rules last e f = ap (λ o. first_that_fits (o ∷ rules) last) e ∙ f
 
--- a kind that is no error comes from the choice that is none
+-- if the choice between an error and a kind is no error, it is the kind
 pub no_error_if : (b : Bool) (kind : SyntaxKind) → is_error (cond b TOKEN_ERROR kind) ≡ false → b ≡ false
 no_error_if true kind e = e
 no_error_if false kind e = refl

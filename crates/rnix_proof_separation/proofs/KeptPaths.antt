@@ -130,7 +130,7 @@ module _ (t s : List ℕ) (is : is_relative (t ++ s) ≡ true) (fits : Fits t (f
   parts : (get_or (t ++ s) (prefix_len (class_test Step) (t ++ s)) 0 ≡ 47) × ((get_or (t ++ s) (prefix_len (class_test Step) (t ++ s) + 1) 0 == 47) ≡ false)
   parts = goes_on_parts (t ++ s) (prefix_len (class_test Step) (t ++ s)) (and_parts (nat_lt 0 (prefix_len (class_test Step) (t ++ s))) _ is).1
 
-  -- the first slash is after the bytes before it
+  -- a slash follows the path characters other than `/` at the beginning
   pub slash_at : get_or (t ++ s) (prefix_len (class_test Step) (t ++ s)) 0 ≡ 47
   slash_at = parts.0
 
@@ -167,7 +167,7 @@ module _ (t s : List ℕ) (is : is_relative (t ++ s) ≡ true) (fits : Fits t (f
   relative_keeps =
       path_keeps relative t s Relative 0 (omega arith) fits (λ r next which. if_true (is_relative (t ++ r)) _ _ _ (relative_on r which) refl)
 
--- without a slash after the bytes before one, no relative path begins
+-- if no slash follows the path characters other than `/` at the beginning, no relative path begins
 pub relative_not : (x : List ℕ) → (get_or x (prefix_len (class_test Step) x) 0 == 47) ≡ false → relative x ≡ None
 relative_not x other = if_false (is_relative x) _ _ _ (and_right _ _ (and_left _ _ (and_left _ _ (and_left _ _ (and_left _ _ other))))) refl
 

@@ -26,7 +26,7 @@ module _ (t s : List ℕ) (some : 0 < length t) where
     slash_first : (r : List ℕ) → begins (codes "/") (t ++ r) ≡ true
     slash_first r = eq-eqb _ 47 (same_byte t r s 0 some ∙ first)
 
-    -- a path begins if the token is longer than `/`, or `${` follows
+    -- a path begins again if the token is a whole path, or `${` follows
     root_begins : (r : List ℕ) → Fits t (first_segment Root 0 (t ++ s)) → (is_broken t ≡ false) ⊎ (begins (codes "${") r ≡ true) → begins_path (t ++ r) ≡ true
     root_begins r fits which =
         elim (cases_lt 1 (length t)) [

@@ -118,7 +118,7 @@ stop_opened m t s r len e =
     let dollar = word_kept t s r (codes "${") len e in
     (if_true (begins (codes "${") (t ++ r)) _ _ _ dollar refl, dollar)
 
--- both texts begin with the same byte, and with no piece
+-- if the first text is not empty and begins with no piece, the second begins with the same byte and with no piece
 abbrev pub GoesOn : Bool → List ℕ → List ℕ → Type 0
 GoesOn m s r = piece_len m s ≡ 0 → 0 < length s → (get_or r 0 0 ≡ get_or s 0 0) × (piece_len m r ≡ 0) × (0 < length r)
 

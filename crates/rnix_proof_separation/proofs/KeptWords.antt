@@ -21,7 +21,7 @@ scheme_uri b e = grind (arith, nat_tests)
 scheme_step : (b : ℕ) → class_test Scheme b ≡ true → class_test Step b ≡ true
 scheme_step b e = grind (arith, nat_tests)
 
--- without a slash there, the path characters before the first slash end where the scheme does
+-- if `:` follows the scheme, no slash follows the path characters other than `/` at the beginning
 step_at_scheme : (x : List ℕ) → get_or x (prefix_len (class_test Scheme) x) 0 ≡ 58 → (get_or x (prefix_len (class_test Step) x) 0 == 47) ≡ false
 step_at_scheme x colon =
     let n = prefix_len (class_test Scheme) x in

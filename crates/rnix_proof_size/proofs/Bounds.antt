@@ -91,7 +91,7 @@ excess full done = 0
 excess full (r or s) = max (excess full r) (excess full s)
 excess full (p · r) = max (if begins_with_child r then 0 else part_excess full p + spare full r) (excess full r - part_surplus p)
 
--- a complete row needs no tokens
+-- a complete row has no surplus
 pub ended_surplus : (q : Row) → may_end q ≡ true → surplus q ≡ 0
 ended_surplus never h = refl
 ended_surplus done h = refl

@@ -78,7 +78,7 @@ pub second_goes : (w : Bool) → suc (excess w second_name) ≤ excess w (BoundA
 second_goes true = at_most _ _ refl
 second_goes false = at_most _ _ refl
 
--- whether no more counted operands may be inside a node, or beside it
+-- a counted node allows counted operands inside it; any other node does exactly if they are allowed beside it
 abbrev pub fits_inside : Bool → Bool → Bool → Bool
 fits_inside true v w = is_false w
 fits_inside false v w = is_same v w
@@ -110,7 +110,7 @@ node_goes {i} v w q k n l h s =
     (sym (ap (λ z. if z then last_passes v w q k && nat_le (suc (excess w (after q k))) (excess w q + surplus (row k)) else true) s) ∙ all) in
     record { none = λ e. at_most _ _ (was (begins_with_child (after q k)) _ both.0 e); some = at_most _ _ both.1 }
 
--- inside a counted operand the limit is not yet reached if it was not before
+-- below the limit, a counted operand is allowed
 open_depths : (d : ℕ) → d < depth_limit → is_full d ≡ false
 open_depths d h = lt-leb depth_limit d h
 

@@ -82,7 +82,7 @@ abbrev pub closed : Bool → Position → ℕ
 closed levels (p.InRow i) = closing_next (per_item levels) (slot_at i) + closing (p.InRow i)
 closed levels x = per_item levels + closing x
 
--- a frame that is not the innermost needs no more
+-- the budget for the next item is at most that for each item
 held_next_most : (levels : Bool) (slot : Option Slot) → held_next (per_item levels) slot ≤ per_item levels
 held_next_most true (Some (Next r.Attr)) = omega arith
 held_next_most false (Some (Next r.Attr)) = omega arith

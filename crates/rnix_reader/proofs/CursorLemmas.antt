@@ -200,12 +200,12 @@ tail_items ts = ap tail_of (items-view ts) ∙ by (from_item ts)
     by [] = refl
     by (x ∷ xs) = refl
 
--- the second item, as found from the first
+-- the kind of the second item, as found from the first
 pub behind_first_item : (ts us vs : List Token) → from_item ts ≡ us → from_item (tail_of us) ≡ vs → head_kind vs ≡ head_kind (tail_of (items ts))
 behind_first_item ts us vs a b =
     sym (ap head_kind (tail_items ts) ∙ head_item (tail_of (from_item ts)) ∙ ap (λ x. head_kind (from_item (tail_of x))) a ∙ ap head_kind b)
 
--- the kinds of the second and the third item, as found one after the other
+-- the kind of the third item, as found from the second
 pub behind_second_item : (ts us vs ws : List Token) → from_item ts ≡ us → from_item (tail_of us) ≡ vs → from_item (tail_of vs) ≡ ws
     → head_kind ws ≡ head_kind (tail_of (tail_of (items ts)))
 behind_second_item ts us vs ws a b c =

@@ -35,7 +35,7 @@ pub remaining_bumped : (k : SyntaxKind) (t : Token) (us : List Token) (s s' : St
 unfolding bumped eaten
 remaining_bumped k t us s s' i e = ap (λ x. items x.rest) e ∙ (first_item t us s.rest i).remaining
 
--- a run is empty exactly if the next item ends it
+-- a run is empty if the next item ends it, or none is left
 pub run_stops : (u : ExpectedSet) (ts : List Token) → stops u (head_kind ts) ≡ true → run_of u ts ≡ []
 run_stops u [] h = refl
 run_stops u (t ∷ ts) h = ap (λ x. if x then [] else t ∷ run_of u ts) h

@@ -25,7 +25,7 @@ abbrev pub nodes_of : List Frame → List OpenNode
 nodes_of [] = []
 nodes_of (f ∷ fs) = opened_on f.head (tree_count (trees_of fs)) (nodes_of fs)
 
--- the marks, the innermost last
+-- a mark: the position, the depth and the checkpoint
 abbrev pub mark_at : Position → ℕ → ℕ → Mark
 mark_at position depth n = record { position = position; depth = depth; at = n }
 
@@ -33,7 +33,7 @@ mark_at position depth n = record { position = position; depth = depth; at = n }
 abbrev pub mark_of : Frame → List Frame → Mark
 mark_of f fs = mark_at f.position f.depth (tree_count (trees_of fs))
 
--- the marks of all frames
+-- the marks of all frames, the innermost last
 abbrev pub marks_of : List Frame → List Mark
 marks_of [] = []
 marks_of (f ∷ fs) = marks_of fs ++ mark_of f fs ∷ []

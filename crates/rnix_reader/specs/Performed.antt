@@ -55,7 +55,7 @@ part_read level counted after m s = expression_read level counted m.depth (moved
 abbrev pub argument_read : ℕ → Mark → State → State
 argument_read min_bp m s = expression_read selection_level false m.depth (application_begun min_bp m s)
 
--- what an action makes of what the reader holds, whose innermost mark is taken, and where the second name of a pattern begins
+-- what an action makes of what the reader holds, whose innermost mark is taken; the number is where the second name of a pattern begins
 abbrev pub performed : Action → Mark → ℕ → State → State
 performed a.Close m second s = ended s
 performed a.ClosePattern m second s = ended s
@@ -105,7 +105,7 @@ is_continuation a.Apply = true
 is_continuation a.ApplyOr = true
 is_continuation action = false
 
--- the action is done at a position of a row, and does not end the text
+-- the action is done at a position of a row, and does not end the reading
 abbrev pub is_row_action : Action → Bool
 is_row_action a.Finish = false
 is_row_action a.EndOperand = false

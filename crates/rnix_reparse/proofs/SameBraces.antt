@@ -49,7 +49,7 @@ first_token t n s p (leaf k x f) v h is_token other =
 not_closing : {k j : SyntaxKind} → k ≡ j → (j ≡ TOKEN_R_BRACE → ⊥) → k ≡ TOKEN_R_BRACE → ⊥
 not_closing e h g = h (sym e ∙ g)
 
--- the same tree may be read of both
+-- if the first leaves of two forests are equal, one of them may stand for both
 both : {i j : SyntaxKind} {a b : List ℕ} {f g d e : Forest} → f ≡ leaf i a d → g ≡ leaf j b e → i ≡ j → a ≡ b → HaveSameBrace (leaf i a d) (leaf i a e)
     → HaveSameBrace f g
 both {i} {j} {a} {b} {f} {g} {d} {e} is now kind text h =
@@ -82,7 +82,7 @@ behind_opening t n s p k l r a v c f h e =
     (subst (λ j. HasForest t (n + 1 + 1) (s + length a) (Some n) (join c (leaf j v empty))) e
     (behind_first t (n + 1) s (Some n) l a (join c (leaf r v empty)) (inside_first t n s p k (between l a c r v) f h)))
 
--- so do what is inside the node of a number and what is inside the new node
+-- what is inside the node of a number and what is inside the new node begin with the same trivia and the same brace
 pub same_insides : (t : Tree) (n : ℕ) (u : Tree) (s : IsSite t n) (m : IsNewNode t n u) → HasSameBrackets t n u
     → precedes_brace (item t (n + 1)).kind ≡ true → HaveSameBrace s.inner m.edited
 same_insides t n u s m h first =
