@@ -106,7 +106,7 @@ module _ (k e : ℕ) (x y : Token) (xs ys : List Token) (kinds : x.kind ≡ y.ki
         subst (AreFrom e) (sym (ap (λ z. dropped z (q ++ v ∷ us)) same ∙ dropped_both q (run_of until (v ∷ us)) (v ∷ us)))
         (from_dropped e (run_of until (v ∷ us)) (v ∷ us) (from_end e [] (v ∷ us) o))
 
-    -- and the error of the run is the same up to their end
+    -- and the error of the run is about them, the next item, and the run after it
     run_error : (v : Token) (us : List Token) → run_of until (q ++ v ∷ us) ≡ q ++ run_of until (v ∷ us) → is_wanted until v.kind ≡ false
         → report (Unwanted until) (run_of until (q ++ v ∷ us)) ≡ report (Unwanted until) (q ++ v ∷ run_of until us)
     run_error v us same w = ap (report (Unwanted until)) (same ∙ ap (λ z. q ++ (if z then [] else v ∷ run_of until us)) w)

@@ -1,4 +1,4 @@
--- If two lists begin with the same items and continue with one of the same kind, these items complete the same trees.
+-- If two lists begin with the same items and continue with one of the same kind that touches alike, these items complete the same trees.
 use Rattle.std.proofs.Common.{◌≡◌, inl, inr, ℕ, zero, suc, ◌+◌, Bool, false, List, [], ◌∷◌, ◌++◌, length, take, drop, Some, None, refl, ap, sym, ◌∙◌, subst, arith}
 use Rattle.std.proofs.{Common.{nat_eq, length-append}, lemmas.List.take-append-drop}
 use Rattle.rnix_grammar.specs.{Fault.Fault, Actions.action_at, Reads.ReadsRoot, AnnotatedForest.{Token, AnnotatedForest, tokens_in, forget, end_from, touches}}

@@ -1,4 +1,4 @@
--- A list of items has no error at those that it shares with the beginning of a list that is read without errors.
+-- A list of items has no error at those that it shares with the beginning of a list that is read without errors, unless these end undecided.
 use Rattle.{std.proofs.Common.{◌≡◌, inl, inr, ℕ, false, List, [], ◌∷◌, ◌++◌, refl, ap, sym, ◌∙◌, subst, arith}, rnix_grammar.specs.Fault.Fault}
 use Rattle.{rnix_grammar.specs.{Actions.action_at, AnnotatedForest.{Token, head_kind, touches}}, rnix_proof_lemmas.specs.Machine.{Frame, Machine, machine}}
 use Rattle.rnix_proof_lemmas.{specs.{Machine.{step_on, step, initial_machine, Runs, rest as here, then as further}, FrameKinds.AreStacked}, proofs.Basics.not_nil}

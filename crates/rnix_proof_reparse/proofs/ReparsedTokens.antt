@@ -24,7 +24,7 @@ pub record HasNode (before part after : List ℕ) (t u : Token) (inner first las
   pub place : tokens_text first ≡ before
   pub extent : tokens_text (t ∷ (inner ++ (u ∷ []))) ≡ part
 
--- its first and last tokens are brackets
+-- its first and last tokens are brackets, and those between them are balanced
 pub record HasBrackets (t u : Token) (inner : List Token) : Type 0 where
   pub opening : is_opening t.kind ≡ true
   pub closing : is_closing u.kind ≡ true

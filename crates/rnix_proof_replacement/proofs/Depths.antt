@@ -77,7 +77,7 @@ module _ (p q : List Mode) where
       let more = over_end x a b d over ended ends in
       (rw ends more.0, rw ends more.1)
 
-  -- a token is the same over the other modes, and after it so are the tokens that follow
+  -- a token is the same over the other modes; after it the same modes are open over both, and the tokens that follow are balanced at their depth
   record Follows (x : List ℕ) (a b : List Mode) (cut : Cut) (tokens : List Lexeme) : Type 0 where
     other : Cut
     is : cut_at (top b) x ≡ other

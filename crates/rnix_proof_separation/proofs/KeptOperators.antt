@@ -62,7 +62,7 @@ operator_first x cut test ok is =
     (λ w kind passes e. let parts = and_parts (test (get_or w 0 0)) (nat_lt 0 (length w)) passes in ap test (word_first w x parts.1 e) ∙ parts.0) is
 
 module _ (t s r : List ℕ) where
-  -- a word begins the token before one text exactly if it does before another
+  -- a word that begins the token before one text also begins it before another
   pub word_kept : (w : List ℕ) → length w ≤ length t → begins w (t ++ s) ≡ true → begins w (t ++ r) ≡ true
   word_kept w len e = sym (stands_inside w 0 t s r (omega arith)) ∙ e
 

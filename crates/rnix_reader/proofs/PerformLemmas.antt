@@ -44,7 +44,7 @@ closing_pattern f [] ts n es names names' w v e c = absurd (true_is_not_false (s
 closing_pattern f (g ∷ fs) ts n es names names' w v e c =
     goes_open (holder_open g fs (frame_kind f.position) v.fit.2 v.fit.1) (pop_pattern (head_pattern f.head (v.fit.0 ∙ e)) c w) v.order
 
--- the entry of a frame that closes
+-- closing an entry of a pattern
 closing_entry : (f : Frame) (fs : List Frame) (ts : List Token) (n : ℕ) (es : List Fault) (names names' : Names) → AreNamed f fs names
     → IsWell f fs ts n names.second
     → frame_kind f.position ≡ Entry → (again : Option Fault) × EntryClosed again names names' → Goes (entry_closed true f fs ts n es) names'

@@ -38,7 +38,7 @@ abbrev is_plain : FrameKind → Bool
 is_plain NodeFrame = true
 is_plain sort = false
 
--- only in a plain node may a node begin without an item
+-- only a plain node may have begun without an item
 start_measure_full : (position : Position) → is_plain (frame_kind position) ≡ false → start_measure position ≡ 30
 start_measure_full (p.AfterOperand min_bp max_bp) e = refl
 start_measure_full (p.Right level) e = refl

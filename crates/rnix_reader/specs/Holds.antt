@@ -136,7 +136,7 @@ abbrev pub measures : List Position → ℕ
 measures [] = 0
 measures (x ∷ xs) = measure x + measures xs
 
--- what is added where a node may begin without an item
+-- what is added before an item, except where a node may have begun without one
 abbrev pub start_measure_at : List Token → Position → ℕ
 start_measure_at [] x = 0
 start_measure_at (t ∷ ts) x = start_measure x

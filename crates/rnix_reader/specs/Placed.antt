@@ -35,7 +35,7 @@ ends_from start (l ∷ ls) = record { kind = l.0; end = start + length l.1 } ∷
 abbrev pub token_cut : List ℕ → ℕ → TokenEnd → Token
 token_cut text start t = record { kind = t.kind; text = take (t.end - start) (drop start text); start = start; end = t.end }
 
--- the tokens of a text, of their kinds and ends, the first of which begins at an offset
+-- the tokens of a text, by their kinds and ends, the first of which begins at an offset
 abbrev pub tokens_cut : List ℕ → ℕ → List TokenEnd → List Token
 tokens_cut text start [] = []
 tokens_cut text start (t ∷ ts) = token_cut text start t ∷ tokens_cut text t.end ts

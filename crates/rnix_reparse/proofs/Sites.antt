@@ -66,7 +66,7 @@ no_root list e = cc
 no_root paren e = cc
 no_root string e = cc
 
--- the children of a node between its first and its last one
+-- the children of a node: its first and its last token, and these trees between them
 abbrev pub enclosed : Tree → ℕ → Forest → Forest
 enclosed t n inner =
     between (item t (n + 1)).kind (text_at record { tree = t; number = n + 1 }) inner (item t (n + (item t n).below)).kind
@@ -114,7 +114,7 @@ pub record IsNewNode (t : Tree) (n : ℕ) (u : Tree) : Type 0 where
   pub edited : Forest
   pub is : u.children ≡ node (item t n).kind (enclosed t n edited) empty
 
--- two lists of children with the same brackets differ only between them
+-- children with equal brackets, and the same trees between them, are equal
 same_enclosed : (l m r q : SyntaxKind) (s a v b : List ℕ) (f : Forest) → l ≡ m → r ≡ q → s ≡ a → v ≡ b → between m a f q b ≡ between l s f r v
 same_enclosed l m r q s a v b f e1 e2 e3 e4 = λ i. between (sym e1 i) (sym e3 i) f (sym e2 i) (sym e4 i)
 
