@@ -36,7 +36,7 @@ interpol_leaf NODE_IDENT = refl
 interpol_leaf NODE_CUR_POS = refl
 interpol_leaf _ = refl
 
--- if an interpolation leads to such a row, no item of an interpolation's kind is expected there
+-- before an interpolation that leads to such a row, no item of an interpolation's kind is expected
 abbrev refuses : Row → Bool
 refuses (PathPieces · r) = true
 refuses (EndOr kind · r) = if same_kind (opening kind) NODE_INTERPOL then false else true

@@ -19,7 +19,7 @@ use Rattle.rnix_grammar.specs.declared.position.Position.TheVariants as p
 use Rattle.rnix_grammar.specs.declared.action.Action.TheVariants as a
 use Rattle.rnix_grammar.specs.declared.operand_start.OperandStart.TheVariants as b
 
--- there are fewer items after the first one than all items and one
+-- a list without its first item is no longer than the list
 tail_short : (us : List Token) → length (tail_of us) < suc (length us)
 tail_short [] = omega arith
 tail_short (u ∷ us) = omega arith
@@ -170,7 +170,7 @@ module _ (k e : ℕ) (x y : Token) (xs ys : List Token) (kinds : x.kind ≡ y.ki
       one : (us : List Token) → length us < suc (length us)
       one us = omega arith
 
-      -- an action for the first of the other items reads it, or leaves the machine with the same items
+      -- if an action reads the first of the other items, both machines part
       reads : (action : Action) (fs : List Frame) → leaf_count (trees_in (f ∷ fs)) + 0 ≡ k → Allowed f.position (Some x.kind) action
           → length (perform false action f fs (x ∷ xs) n es).remaining < suc (length xs)
           → length (perform false action f fs (y ∷ ys) n es).remaining < suc (length ys)

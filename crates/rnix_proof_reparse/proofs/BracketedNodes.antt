@@ -172,7 +172,7 @@ read_there {k} {l} {r} w t u x {d = d} {s = s} h ended kind a z n v us colonless
 end_closed : (n : ℕ) (x : AnnotatedForest) (r : SyntaxKind) (u : Token) → end_from n (tokens_in (x ⊕ one_token r u)) ≡ u.end
 end_closed n x r u = ap (end_from n) (tokens_in-⊕ x (one_token r u)) ∙ end_more n (tokens_in x) (u ∷ [])
 
--- the items of a bracketed node begin it as an operand, whatever follows that is neither `:` nor `@`
+-- alone, the items of a bracketed node begin it as an operand; so they do whatever follows that is neither `:` nor `@`
 abbrev pub BeginsItself : SyntaxKind → SyntaxKind → Token → AnnotatedForest → SyntaxKind → Token → Type 0
 BeginsItself k l t x r u = start_kind 0 (t ∷ (tokens_in x ++ (u ∷ []))) ≡ k
 
