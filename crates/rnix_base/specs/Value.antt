@@ -64,7 +64,7 @@ with_line_feeds false (b ∷ text) =
     then (if slice_index text 0 == 10 then with_line_feeds false text else 10 ∷ with_line_feeds false text)
     else b ∷ with_line_feeds (b == 92) text
 
--- what is written of a character in front of a rest: a line feed for a carriage return, or nothing if one follows, unless the character is escaped
+-- what is written of a character in front of a rest: a line feed for a carriage return, or nothing if a line feed follows, unless the character is escaped
 abbrev pub letter_with_line_feed : ℕ → List ℕ → Bool → List ℕ
 letter_with_line_feed letter rest is_escaped =
     if letter == 13 && not is_escaped then (if slice_index rest 0 == 10 then [] else 10 ∷ []) else encode_utf8 letter

@@ -41,6 +41,6 @@ abbrev pub IfNotRead : (Refusal → Type 0) → ParsedEdit → Type 0
 IfNotRead P (parsed_edit.Read made read) = Unit {0}
 IfNotRead P (parsed_edit.Refused refusal) = P refusal
 
--- the gap, as a value of the program
+-- the gap that a value of the program represents
 abbrev pub gap_of : Found → Gap
 gap_of gap = record { start = gap.start; end = gap.end; before = string_bytes gap.before; after = gap.after.now; comments = gap.comments }

@@ -18,7 +18,7 @@ pub record Step : Type 0 where
   pub kind : SyntaxKind
   pub text : List ℕ
 
--- a step, as a value of the program
+-- the step that a value of the program represents
 abbrev pub step_of : Made → Step
 step_of step = record { enters = step.enters; kind = step.kind; text = step.text.now }
 

@@ -17,7 +17,7 @@ joins n (token k t f) rest = nat_eq t.start n && joins t.end f rest
 joins n (branch k c f) rest = touches n (tokens_in c ++ (tokens_in f ++ rest)) && joins (end_from n (tokens_in c)) f rest
 joins n (fault m c f) rest = false
 
--- a path without interpolations is one token
+-- after the first token of a path: nothing, or pieces that touch one another and that what follows does not continue
 abbrev pub joins_first : ℕ → AnnotatedForest → List Token → Bool
 joins_first n blank rest = true
 joins_first n f rest = joins n f rest

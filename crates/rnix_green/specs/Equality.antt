@@ -22,7 +22,7 @@ both_ways true b to from = sym (to refl)
 both_ways false true to from = from refl
 both_ways false false to from = refl
 
--- such a test is an equivalence
+-- a test that decides equality is an equivalence
 pub equivalence_from : {K : Type 0} (E : K → K → Bool) → ((a b : K) → Decides (E a b) (a ≡ b)) → IsEquivalence E
 equivalence_from E decides = record {
   refl = λ a. (decides a a).1 refl;

@@ -9,7 +9,7 @@ tree_numbers n empty = []
 tree_numbers n (leaf k t f) = n ∷ tree_numbers (n + 1) f
 tree_numbers n (node k c f) = n ∷ tree_numbers (n + 1 + element_count c) f
 
--- the numbers that are reached by passing over what is inside each: skip comes first, and room is how many elements remain
+-- the numbers from n on, passing over `skip` elements first and over what is inside each element; `room` is how many elements remain
 abbrev pub passed_over : ℕ → ℕ → ℕ → List Item → List ℕ
 passed_over n skip room [] = []
 passed_over n (suc skip) room (i ∷ is) = passed_over (n + 1) skip (room - 1) is

@@ -11,7 +11,7 @@ abbrev pub exponent_digits : ℕ → List ℕ → Cut
 exponent_digits i text =
     let end = run_end is_ascii_digit i text in plain (if end == i then TOKEN_ERROR else TOKEN_FLOAT) end
 
--- a float whose digits end at the index i: an `e` or `E` there, a sign, and digits
+-- a float whose digits end at the index i, with its exponent if there is one: an `e` or `E` there, a sign or none, and digits
 abbrev pub exponent : ℕ → List ℕ → Cut
 exponent i text =
     if slice_index text i == 101 || slice_index text i == 69
