@@ -153,7 +153,7 @@ length_filled x k c =
       length-append (text_of c) (text_after x),
     )
 
--- if the leaves of a context with a node are UTF-8, so are those with another node in it
+-- if the leaves of a context with a node are UTF-8, so are those with another node in it whose leaves are UTF-8
 pub characters_filled : (x : Context) (k j : SyntaxKind) (c d : Forest) → HasText (filled x k c) → HasText d → HasText (filled x j d)
 characters_filled (here f) k j c d h g = (g, h.1)
 characters_filled (behind_leaf i t x) k j c d h g = (h.0, characters_filled x k j c d h.1 g)

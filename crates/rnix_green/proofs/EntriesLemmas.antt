@@ -284,6 +284,6 @@ held-closed text e later d j o h room en is pushed ou sta =
       few = omega (arith, ap length pushed, length_push e.elements.items (packed o.kind 0 0 (below + 1)));
     }
 
--- a builder is complete exactly if no node is open and there is one finished node
+-- if a builder is complete, no node is open and there is one finished node
 pub complete-parts : (d : Draft) → is_complete_of d ≡ true → (is_nothing d.open_nodes ≡ true) × (is_one_node d.finished ≡ true)
 complete-parts d h = and_parts (is_nothing d.open_nodes) (is_one_node d.finished) h

@@ -137,7 +137,7 @@ one_node_test (node k c empty) h = ap is_node_entry
 one_node_test (node k c (leaf j u f)) h = absurd (omega arith)
 one_node_test (node k c (node j d f)) h = absurd (omega arith)
 
--- a builder is complete exactly if no node is open, and there is one tree, which is a node
+-- if no node is open and there is one tree, a builder is complete exactly if the last entry is a node
 pub complete_is : (text : List ℕ) (es : List Packed) (os : List Pending) (st : List ℕ) (d : Draft) → IsDraft text es os st d → length os ≡ 0 → length st ≡ 1 →
     is_node_last (map entry_of es) ≡ is_complete_of d
 complete_is text es [] st d h o s =

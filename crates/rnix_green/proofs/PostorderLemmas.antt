@@ -55,7 +55,7 @@ kept_from-join : (n s : ℕ) (p : Option ℕ) (f g : Forest) →
 kept_from-join n s p f g =
     ap (map kept_of) (items_from-join n s p f g) ∙ map-append kept_of (items_from n s p f) (items_from (n + element_count f) (s + length (text_of f)) p g)
 
--- a forest with a last tree
+-- a forest that is empty or has a last tree
 pub data Last : Forest → Type 0 where
   no_last : Last empty
   last_leaf : (g : Forest) (k : SyntaxKind) (t : List ℕ) → Last (join g (leaf k t empty))

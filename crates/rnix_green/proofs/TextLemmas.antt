@@ -33,7 +33,7 @@ taken_more text part m w h =
 pub remaining_more : (text part : List ℕ) (m : ℕ) → drop (m + length part) text ≡ drop (length part) (drop m text)
 remaining_more text part m = sym (drop-drop (length part) m text)
 
--- the slice of a text from its start on
+-- the slice of a text up to an offset, from its start on
 pub first_range : (text : List ℕ) (n : ℕ) → slice_range text 0 n ≡ take n text
 first_range text n = let all : n - 0 ≡ n = omega arith in ap (λ m. take m text) all
 

@@ -212,7 +212,7 @@ pub flanked_goes : (t : Tree) (p m child above : ℕ) → p < length (items_of t
     → (item t above).parent ≡ None → ⊥
 flanked_goes t p m child above l high h e = climb_goes t p m above l high h.climbing e
 
--- element `c` is `n` or inside it, contains the token in which the range starts, and contains the range
+-- element `c` contains the token in which the range starts, and is `n`, or is inside `n` and contains the range
 pub record IsReached (t : Tree) (range : Extent) (n token c : ℕ) : Type 0 where
   pub low : n ≤ c
   pub high : c + (item t c).below ≤ n + (item t n).below

@@ -5,7 +5,7 @@ use Rattle.rnix_green.proofs.InsideLemmas.{below_parent, first_child_of, sibling
 use Rattle.rnix_tree.{specs.Siblings.{is_beside, numbers_below, index_of}, proofs.{CoveringLemmas.ends_before, RelativeLemmas.{not_beside, root_alone}}}
 use Rattle.rnix_tree.proofs.DirectionLemmas.{same_passes, passes_same, fails, none_down, skip_down, meet_down}
 
--- the siblings up to `sibling`, which is before element `n` or is it, have been counted
+-- the siblings before `sibling`, which is before element `n` or is it, have been counted
 pub record IsCounted (t : Tree) (n p sibling index : ℕ) : Type 0 where
   pub here : IsChild record { tree = t; number = p } sibling
   pub low : sibling ≤ n

@@ -43,7 +43,7 @@ module _ (t : Tree) (root : ℕ) (siblings : SiblingRange) (r : SiblingForest t 
   abbrev rest_at : ℕ → List Event
   rest_at n = events_remaining t root (after_siblings siblings n)
 
-  -- the rest of the walk begins with the events of all of the forest
+  -- the rest of the walk from a sibling on begins with the events of this sibling and of those after it
   whole_remaining : (f g : Forest) (n : ℕ) → r.forest ≡ join f g → siblings.first + element_count f ≡ n
       → rest_at n ≡ map (event_at t) (steps_from n g) ++ rest_at siblings.end
   whole_remaining f g n both counted =

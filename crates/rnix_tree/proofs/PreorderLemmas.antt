@@ -55,7 +55,7 @@ behind_root t root m (Some p) e =
     ap (λ b. if b then Done else (if nat_lt (m + 1 + (item t m).below) (p + 1 + (item t p).below) then Enter (m + 1 + (item t m).below) else Leave p))
     (is_same m root e)
 
--- the step after an element below the root is the same within a root
+-- after an element below the root is left, the walk enters the element after it, or leaves its parent
 pub behind_inner : (t : Tree) (root m p : ℕ) → root < m → behind t root m (Some p)
     ≡ (if nat_lt (m + 1 + (item t m).below) (p + 1 + (item t p).below) then Enter (m + 1 + (item t m).below) else Leave p)
 behind_inner t root m p l =

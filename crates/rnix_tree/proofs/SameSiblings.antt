@@ -26,7 +26,7 @@ stop_start n s p empty = stop_end n s p empty 0 (omega arith) ∙ omega arith
 stop_start n s p (leaf k u f) = stops_at n s p (leaf k u f) 0 (omega arith)
 stop_start n s p (node k c f) = stops_at n s p (node k c f) 0 (omega arith)
 
--- the next index after a leaf is the first one after it
+-- where an element after the first leaf starts does not depend on whether the forest includes the leaf
 stop_after_leaf : (n s : ℕ) (p : Option ℕ) (k : SyntaxKind) (u : List ℕ) (f : Forest) (i : ℕ)
     → stop_at n s p (leaf k u f) (suc i) ≡ stop_at (n + 1) (s + length u) p f i
 stop_after_leaf n s p k u f i = elim (cases_lt i (element_count f)) [

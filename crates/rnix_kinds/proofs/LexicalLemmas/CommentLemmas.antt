@@ -24,7 +24,7 @@ comment_run : (xs : List ℕ) → end_in xs ≡ prefix_len (class_test Comment) 
 comment_run [] = omega arith
 comment_run (x ∷ xs) = run_step x xs (class_test Comment x) refl (comment_run xs)
 
--- the bytes before a position, and a run of such bytes from there on
+-- if a comment continues up to a position, it continues through the run of such bytes from there on
 pub comment_run_end : (i end : ℕ) (xs : List ℕ) → before_pair 42 47 xs ≡ i + before_pair 42 47 (drop i xs)
     → end ≡ run_end (class_test Comment) i xs → before_pair 42 47 xs ≡ end + before_pair 42 47 (drop end xs)
 comment_run_end i end xs so_far e =

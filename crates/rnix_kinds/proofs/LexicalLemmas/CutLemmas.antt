@@ -46,7 +46,7 @@ module _ (top : Option Mode) (text : List ℕ) (utf8 : IsUtf8 text) (some : 0 < 
   space_fits = if_fits top text (nat_lt 0 (space_len text)) _ _ (λ e. good_plain top text _ _ refl (grind (arith, nat_tests))
       (IsCharBoundary-space_len text utf8)) (λ e. tt)
 
-  -- a token that begins with a byte of the class, and is the longest run of it from position `i` on
+  -- the longest run of a class, if the first byte is in it, is a good cut of a kind that requires nothing of the text
   good_run : (kind : SyntaxKind) (class : Class) → is_free kind ≡ true → class_test class (get_or text 0 0) ≡ true
       → IsCutOf top text (plain kind (run_end (class_test class) 0 text))
   good_run kind class free e =

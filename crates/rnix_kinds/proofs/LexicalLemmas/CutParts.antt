@@ -218,7 +218,7 @@ angle_end b e p = grind (arith, nat_tests)
 angle_open : (b : ℕ) → b == 60 ≡ true → class_test Angle b ≡ true
 angle_open b e = grind (arith, nat_tests)
 
--- the byte after the path characters after `<` is `<` or `>`
+-- if `>` comes right after the run of path characters and `<` that `<` begins, an ASCII byte other than 0 follows the path characters after that `<`
 search_byte : (text : List ℕ) → 0 < length text → get_or text 0 0 == 60 ≡ true → get_or text (prefix_len (class_test Angle) text) 0 == 62 ≡ true
     → (0 < get_or text (run_end is_path 1 text) 0) × (get_or text (run_end is_path 1 text) 0 < 128)
 search_byte text some first last =

@@ -11,7 +11,7 @@ content_from-inside m zero xs h = omega arith
 content_from-inside m (suc k) [] h = absurd (omega arith)
 content_from-inside m (suc k) (x ∷ xs) h = omega (arith, content_from-inside m k xs (omega arith))
 
--- if the text ends in a piece, so does the content
+-- if the text ends inside an open piece, all of it is content
 content_from-past : (m : Bool) (inside : ℕ) (xs : List ℕ) → length xs ≤ inside → content_from m inside xs ≡ length xs
 unfolding content_from
 content_from-past m zero [] h = refl
@@ -63,7 +63,7 @@ pub content_len-run : (m : Bool) (xs : List ℕ) → content_len m xs ≡ prefix
 content_len-run m [] = omega arith
 content_len-run m (x ∷ xs) = content_run_step m (class_test Content x) x xs refl (content_len-run m xs)
 
--- the pieces before a position, and a run of such bytes from there on
+-- if the content continues up to a position, it continues through the run of such bytes from there on
 pub content_len-run_end : (m : Bool) (i end : ℕ) (xs : List ℕ) → content_len m xs ≡ i + content_len m (drop i xs) → end ≡ run_end (class_test Content) i xs
     → content_len m xs ≡ end + content_len m (drop end xs)
 content_len-run_end m i end xs so_far e =
