@@ -89,7 +89,7 @@ abbrev branches : List Sight → List SyntaxKind
 branches [] = []
 branches (s ∷ ss) = if s.0 then s.1 ∷ branches ss else branches ss
 
--- one more member of a set, or not
+-- what is found in two lists stays alike with one more element that is found in both, or in neither
 same_first : {A B : Type 0} (w : Bool) (a : A) (b : B) (x : Option A) (y : Option B) → is_some x ≡ is_some y →
     is_some (cond w (Some a) x) ≡ is_some (cond w (Some b) y)
 same_first true a b x y e = refl

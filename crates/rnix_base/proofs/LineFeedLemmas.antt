@@ -52,7 +52,7 @@ line_feeds_high (b ∷ bytes) text high =
     line_feeds_other false b (bytes ++ text) (grind (arith, nat_tests, first)) ∙ ap (λ x. b ∷ with_line_feeds x (bytes ++ text)) slash
     ∙ ap (λ t. b ∷ t) (line_feeds_high bytes text (λ k i. high (suc k) (omega arith)))
 
--- a character that is no carriage return, or is escaped, stays
+-- a character of 128 or above stays, whether it is escaped or not
 line_feeds_long : (e : Bool) (c : ℕ) (letter text : List ℕ) → IsCharacter letter → 128 ≤ c → letter ≡ encode_utf8 c → 128 ≤ get_or letter 0 0
     → with_line_feeds e (letter ++ text) ≡ letter ++ with_line_feeds false text
 line_feeds_long e c letter text one big is first =

@@ -101,7 +101,7 @@ two_dollars text = content_len-piece false 2 (36 ∷ 36 ∷ text) (grind (arith,
 escape_piece : (b : ℕ) (text : List ℕ) → content_len false (92 ∷ b ∷ text) ≡ 2 + content_len false text
 escape_piece b text = content_len-piece false 2 (92 ∷ b ∷ text) (grind (arith, nat_tests)) (omega arith) (omega arith)
 
--- a byte that is no `$` is a piece
+-- a byte that is no quote, no backslash and no `$` is a piece
 plain_piece : (b : ℕ) (text : List ℕ) → b ≢ 34 → b ≢ 92 → b ≢ 36 → content_len false (b ∷ text) ≡ 1 + content_len false text
 plain_piece b text q s d = content_len-piece false 1 (b ∷ text) (grind (arith, nat_tests, q, s, d)) (omega arith) (omega arith)
 

@@ -85,7 +85,7 @@ part_text-later n k (Interpolation i ∷ parts) remaining m h =
     ap (part_text k) (list_kept-gap n remaining m (symbols (suc m) parts)) ∙ part_text-gap m k (list_kept n 0 (symbols (suc m) parts))
     ∙ part_text-later n k parts 0 (suc m) (omega arith)
 
--- the list of what remains of later parts, after what remains of earlier ones
+-- the parts with the texts that remain for them, after what remains of earlier parts, are the parts without their indentation
 pub with_texts-behind : {I : Type 0} (n : ℕ) (parts : Parts I) (before : List Symbol) (remaining m : ℕ) → ((k : ℕ) → m ≤ k → part_text k before ≡ [])
     → with_texts (before ++ list_kept n remaining (symbols m parts)) m parts ≡ unindented_parts n remaining parts
 unfolding with_texts unindented_parts symbols

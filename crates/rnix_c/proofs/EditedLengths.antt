@@ -21,7 +21,7 @@ pub same_edited : (range other : Extent) (new new_too text text_too : List ℕ) 
 same_edited range other new new_too text text_too r n t =
     ap (λ range. edited range new text) r ∙ ap (λ new. edited other new text) n ∙ ap (edited other new_too) t
 
--- if the tree of a text is short, so is the text
+-- if a text is short, so is the text of its tree
 pub short_text : (text : List ℕ) (tree : Tree) (faults : List Fault) → IsUtf8 text → IsParsed (tokens_of text) tree faults → length text < 2 ^ 32 →
     length (text_of (forest_of tree)) < 2 ^ 32
 short_text text tree faults utf8 p short = omega (arith, short, ap (length {A = ℕ}) (own_text text tree faults utf8 p))

@@ -8,7 +8,7 @@ use Rattle.rnix_c.specs.{declared.names.RnixBinding.{RnixBinding}, Elements.{num
 abbrev pub own_binding : Binding → RnixBinding
 own_binding binding = binding_of binding.first (bound_of binding)
 
--- each binding refers to the first one with its name in its scope
+-- what is written for bindings that each refer to the first one with its name in its scope
 among : (all : List Bound) (bindings : List Binding) → ((k : ℕ) (d : Binding) → k < length bindings
     → number_in all (cow_str_bytes (get_or bindings k d).text) (get_or bindings k d).scope ≡ Some (get_or bindings k d).first)
     → map own_binding bindings ≡ map (binding_among all) (map bound_of bindings)

@@ -47,7 +47,7 @@ none_tested None false steps remaining none is = absurd (false≢true is)
 none_tested (Some step) true steps remaining some is = absurd (false≢true (sym is))
 none_tested (Some step) false steps remaining some is = (λ no. absurd (false≢true no), λ none. absurd (omega (arith, ap length some, ap length none)))
 
--- if both walks take the same step, their remaining steps are the same exactly if all were
+-- if both walks take the same step, and their remaining steps are the same, all their steps are
 pub both_passed : (x y : Step) (a b all_a all_b : List Step) → all_a ≡ x ∷ a → all_b ≡ y ∷ b → x ≡ y → a ≡ b → all_a ≡ all_b
 both_passed x y a b all_a all_b first second same rests = cc
 

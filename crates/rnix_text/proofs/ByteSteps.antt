@@ -70,7 +70,7 @@ first_passes unit p b h = newline_cases (b == newline)
     newline_cases true u = omega (arith, u.line)
     newline_cases false u = omega (arith, u.column refl, weight_first unit b h)
 
--- a column is at most two for each byte
+-- bytes add at most two columns each
 pub column_bound : (unit : ColumnUnit) (bs : List ℕ) (p : Position) → (fold (step unit) p bs).column ≤ p.column + 2 * length bs
 column_bound unit [] p = omega arith
 column_bound unit (b ∷ bs) p = newline_cases (b == newline) (column_bound unit bs)

@@ -129,7 +129,7 @@ path_interpolates start modes text e =
     let here : cut_at (top (without_ended_paths (Path start ∷ modes) text)) text ≡ cut = rw settled (interpolation_cut start text e) in
     subst InterpolatesFirst (sym (tokens_under-cut (Path start ∷ modes) text cut (begins_some text e) here (omega arith))) refl
 
--- after a token that begins a path, before `${`, an interpolation begins the tokens
+-- a token that opens a mode begins a string or an interpolation, or is a path that an interpolation follows
 path_opens_first : (change : Change) (modes : List Mode) (text : List ℕ) → IsPathBegun change → begins (codes "${") text ≡ true
     → InterpolatesFirst (tokens_under (changed change modes) text)
 path_opens_first (Open (Path start)) modes text begun e = path_interpolates start modes text e
