@@ -2,7 +2,7 @@
 use Rattle.std.proofs.Common.{◌≡◌, ℕ, zero, suc, ◌-◌, ◌<◌, Some, None, refl, ap, ◌∙◌, arith}
 use Rattle.{rnix_green.specs.Tree.Located, rnix.specs.AttrName.{inside_of, next_inside, inside_parens}}
 
--- without the outer parentheses, the expression inside has one pair fewer
+-- to remove up to so many parentheses is to remove the outer ones, and then up to one pair fewer
 pub inside_next : (count : ℕ) (e inner : Located) → 0 < count → inside_of e ≡ Some inner → inside_parens count e ≡ inside_parens (count - 1) inner
 inside_next zero e inner some is = absurd (omega (arith, some))
 inside_next (suc count) e inner some is =

@@ -13,7 +13,7 @@ not_utf8 = negsuc 0
 abbrev pub no_memory : ℤ
 no_memory = negsuc 1
 
--- -3: there is no such kind, error, diagnostic, string or unit of columns
+-- -3: there is no such kind, error, diagnostic, string, range or unit of columns
 abbrev pub none_such : ℤ
 none_such = negsuc 2
 

@@ -90,7 +90,7 @@ rest_decides passed other_passed a b a_remaining b_remaining e first second = re
       ∙ ap (λ steps. steps ++ steps_of b_remaining) (sym (same_steps passed other_passed e));
 }
 
--- an element starts before it ends
+-- no element ends before it starts
 ordered : (e : Located) → (item_of e).start ≤ (item_of e).end
 ordered e = elim (cases_lt e.number (length (items_of e.tree))) [
   | inl there ↦ (in_text 0 0 None (forest_of e.tree) e.number (omega (arith, there, elements_in_all e.tree))).ordered

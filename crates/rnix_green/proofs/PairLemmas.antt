@@ -10,7 +10,7 @@ same_read [] i x y l a b = absurd (omega arith)
 same_read (e ∷ es) zero x y l a b = a ∙ sym b
 same_read (e ∷ es) (suc i) x y l a b = same_read es i x y (omega arith) a b
 
--- an element that is read again is the same
+-- a token that is read again is a token
 pub token_again : (es : List Packed) (i : ℕ) (x y : Packed) → i < length es → x ≡ get_or es i x → y ≡ get_or es i y → size_in x ≡ 0 → size_in y ≡ 0
 token_again es i x y l a b none = ap size_in (sym (same_read es i x y l a b)) ∙ none
 

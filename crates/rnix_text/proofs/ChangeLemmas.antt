@@ -42,7 +42,7 @@ ends_by_false start e h = grind (arith, nat_tests)
 does_end_by : (start : ℕ) (e : Edit) → e.end ≤ start → ends_by start e ≡ true
 does_end_by start e h = grind (arith, nat_tests)
 
--- edits are partitioned by whether they end before an offset
+-- edits are partitioned by whether they end at or before an offset
 pub parted : (start : ℕ) (es : List Edit) → AreAscending 0 (map change_of es) → IsPartitionedBy (ends_by start) es
 parted start es h i j d le l up =
     does_end_by start (get_or es i d) (omega (arith, ends_ascend 0 es h i j d le l, ends_by_true start (get_or es j d) up))

@@ -15,7 +15,7 @@ run_by_false start run h = grind (arith, nat_tests)
 does_run_by : (start : ℕ) (run : Vec Edit Global) → end_of 0 run.items ≤ start → run_ends_by start run ≡ true
 does_run_by start run h = grind (arith, nat_tests)
 
--- runs are partitioned by whether they end before an offset
+-- runs are partitioned by whether they end at or before an offset
 pub runs_parted : (start : ℕ) (runs : List (Vec Edit Global)) → AreAscending 0 (map change_of (edits_of runs)) → AreFilled runs
     → IsPartitionedBy (run_ends_by start) runs
 runs_parted start runs h f i j d le l up =

@@ -23,7 +23,7 @@ exponent i text =
 abbrev pub fraction : ℕ → List ℕ → Cut
 fraction i text = exponent (run_end is_ascii_digit i text) text
 
--- digits, and a fraction unless they begin with `0` and a digit
+-- digits, and if `.` follows them, a fraction, unless they begin with `0` and a digit
 abbrev pub digits_to : ℕ → List ℕ → Cut
 digits_to end text =
     if slice_index text end == 46 && not (slice_index text 0 == 48 && not (slice_index text 1 == 46)) then fraction (end + 1) text
