@@ -114,7 +114,7 @@ copied_kept text cut copy e elements h o c p is =
     subst (IsKept (as_tree (made text e.elements.items)) elements) (sym (p ∙ c))
     (finished_kept text e _ _ elements h (complete-parts (draft_in text e) o).1 (is ∙ ap (λ t. kept_from 0 0 None (made t e.elements.items)) c))
 
--- the stored elements of a complete builder are those of its tree
+-- the tree that is rebuilt from the stored elements of a complete builder is the one that the builder made
 pub finished_is : (text copy : List ℕ) (e : Entries) (elements : List Packed) (t : Tree) → is_complete_of (draft_in text e) ≡ true →
     IsKept (as_tree (made text e.elements.items)) elements copy → t ≡ tree_from elements copy → forest_of t ≡ made text e.elements.items
 finished_is text copy e elements t o h is =

@@ -96,7 +96,7 @@ filled_at [] i d f l = absurd (omega (arith, l))
 filled_at (r ∷ rs) zero d f l = f.0
 filled_at (r ∷ rs) (suc i) d f l = filled_at rs i d f.1 (omega (arith, l))
 
--- if two concatenated lists of edits are ascending, so is each of them, and the first ends before the second begins
+-- if two concatenated lists of edits are ascending, so is each of them, and the second begins at or after the end of the first
 pub ascending_parts : (n : ℕ) (xs ys : List Edit) → AreAscending n (map change_of (xs ++ ys))
     → AreAscending n (map change_of xs) × AreAscending (end_of n xs) (map change_of ys)
 ascending_parts n [] ys h = (tt, h)

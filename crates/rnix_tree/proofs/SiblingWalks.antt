@@ -314,7 +314,7 @@ sibling_forest t root x there inside = elim (cases_lt root x) [
 pub is_sibling_range : (t : Tree) (siblings : SiblingRange) (h : IsSiblingRange t siblings) → SiblingForest t h.root siblings
 is_sibling_range t siblings h = subst (SiblingForest t h.root) (sym h.is) (sibling_forest t h.root siblings.first h.there h.inside)
 
--- the node around an element is before it
+-- the holder of an element is the element itself, or before it
 pub holder_before : (t : Tree) (root m : ℕ) (p : Option ℕ) → m < length (items_of t) → (item t m).parent ≡ p → holder_of root m p ≤ m
 holder_before t root m None there e = omega arith
 holder_before t root m (Some p) there e = choose (m == root)
