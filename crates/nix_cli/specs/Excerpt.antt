@@ -12,7 +12,8 @@ is_simple c = not (nat_lt c 32) && nat_lt c 127
 abbrev pub is_between : ℕ → ℕ → ℕ → Bool
 is_between low high c = not (nat_lt c low) && not (nat_lt high c)
 
--- the character that is printed for another: the picture of a control character, a replacement for one that changes the direction of text
+-- the character that is printed for another: a picture if that is below 32 and not a tab; the replacement character if it is another control character, or
+-- changes the direction of text
 abbrev pub printed : ℕ → ℕ
 printed c =
     if c == 9 then c

@@ -116,7 +116,7 @@ begun_as k.NODE_ATTRPATH_VALUE place e values = option_map (λ found. (Some foun
 begun_as k.NODE_ATTRPATH place e values = Some (None, values)
 begun_as _ place e values = scalar_begun place e values
 
--- the same by the kind that it has
+-- the same, by the kind of the node
 abbrev pub begun : Place → Located → List Built → Option (Option Place × List Built)
 begun place e values = begun_as (item_of e).kind place e values
 

@@ -1,4 +1,4 @@
--- The dead bindings of a text: those that should be reported and to which no reference refers.
+-- The dead bindings of a text: those that should be reported and are not used.
 use Rattle.std.specs.Prelude.{◌≡◌, ℕ, ◌+◌, ◌<◌, ◌==◌, ◌&&◌, ◌||◌, Bool, true, false, not, nat_eq, List, [], ◌∷◌, ◌++◌, length, map, get_or, set, codes, Option, Some, None, if◌then◌else◌}
 use Rattle.std.specs.List.{list_any, starts_with}
 use Rattle.std.specs.Ordering.{nat_cmp}
@@ -24,7 +24,7 @@ is_ignored text = starts_with nat_eq text (codes "_")
 abbrev pub is_body : Bound → Bool
 is_body bound = same_kind (item_of bound.scope).kind k.NODE_LEGACY_LET && bytes_eq bound.text (codes "body")
 
--- whether a binding is reported if nothing refers to it: it is not an attribute of a set, and not marked as unused on purpose
+-- whether a binding is reported if it is not used: it is not an attribute of a set, the value of a legacy `let`, or marked as unused on purpose
 abbrev pub is_reportable : Bound → Bool
 is_reportable bound = not (same_kind (item_of bound.scope).kind k.NODE_ATTR_SET) && (not (is_body bound) && not (is_ignored bound.text))
 

@@ -1,4 +1,4 @@
--- The first token of a text that closes nothing.
+-- The first closing token of a text that closes nothing.
 use Rattle.std.specs.Prelude.{Bool, true, false, not, List, [], ◌∷◌, reverse, Option, Some, None, option_map, if◌then◌else◌}
 use Rattle.rnix_kinds.specs.declared.kinds.SyntaxKind.{SyntaxKind}
 use Rattle.rnix_kinds.specs.declared.kinds.SyntaxKind.TheVariants.{TOKEN_L_BRACE, TOKEN_L_BRACK, TOKEN_L_PAREN, TOKEN_INTERPOL_START}
@@ -47,7 +47,7 @@ after_closing (Some kind) stack = open_around kind stack
 abbrev pub open_after : SyntaxKind → List SyntaxKind → List SyntaxKind
 open_after kind stack = if opens kind then kind ∷ after_closing (opener_of kind) stack else after_closing (opener_of kind) stack
 
--- the first token of a walk that closes nothing; the stack is open before the walk
+-- the first closing token of a walk that closes nothing; the stack is open before the walk
 abbrev pub unmatched_in : List SyntaxKind → List Spot → Option Extent
 unmatched_in stack [] = None
 unmatched_in stack (spot ∷ spots) =
@@ -55,15 +55,15 @@ unmatched_in stack (spot ∷ spots) =
     else (if closes_none (opener_of (item_of spot.1).kind) stack then Some (extent_of spot.1)
     else unmatched_in (open_after (item_of spot.1).kind stack) spots)
 
--- the first token inside an element that closes nothing
+-- the first closing token inside an element that closes nothing
 abbrev pub unmatched : Located → Option Extent
 unmatched root = unmatched_in [] (elements_of root)
 
--- a range, or the first token of a walk that closes nothing if there is none
+-- a range, or if there is none, the first closing token of a walk that closes nothing
 abbrev pub unmatched_or : Option Extent → List SyntaxKind → List Spot → Option Extent
 unmatched_or None stack spots = unmatched_in stack spots
 unmatched_or (Some range) stack spots = Some range
 
--- the first token that closes nothing, among those already read and those that follow
+-- the first closing token that closes nothing, among those already read and those that follow
 abbrev pub unmatched_after : Openings → List Spot → Option Extent
 unmatched_after read spots = unmatched_or (option_map bounds_of read.extra) (reverse read.opened.items) spots

@@ -57,7 +57,7 @@ pub record IsProposed (text : List ℕ) (r : Replacement) (fix : Fix) : Type 0 w
   pub range : fix.range ≡ r.range
   pub new : string_bytes fix.text ≡ new_text text r
 
--- a replacement does not help: if its range begins and ends between characters, the text with it has no fewer errors than a number
+-- a replacement does not help: if its range and the bytes that it keeps begin and end between characters, the text with it has no fewer errors than a number
 abbrev pub DoesNotHelp : List ℕ → ℕ → Replacement → Type 0
 DoesNotHelp text errors r =
     IsOfCharacters text r.kept → IsOfCharacters text r.range → HasNoFewer (spliced text r.range.start r.range.end (new_text text r)) errors

@@ -200,7 +200,7 @@ pub record IsSingleUpdated (update : Update) (names : List (List ℕ)) (steps : 
   pub only : definitions_in names false steps ≡ definition ∷ []
   pub is_updated : IsDefinitionUpdated update.action update text root definition made
 
--- no entry of a set defines the attribute
+-- the result of an update where no entry of a set defines the attribute
 abbrev pub IsNoneUpdated : Update → List (List ℕ) → List ℕ → List ℕ → List PathStep → List ℕ → Located → Outcome → Type 0
 IsNoneUpdated update names path starts steps text root made =
     (definitions_in names false steps ≡ []) × IsUndefinedUpdated update names path starts steps text root made

@@ -77,7 +77,7 @@ abbrev pub IsInserted : Keys → Attributes → ℕ → List ℕ → ℕ → Att
 IsInserted keys old set name number new = (later : Keys) → ((n : ℕ) (key : ℕ × List ℕ) → keys n ≡ Some key → later n ≡ Some key) →
     later number ≡ Some (set, name) → IsWith later old set name number new
 
--- a value is added as an attribute, and no other value is found as this attribute
+-- if a value is an attribute, no other value is found as this attribute; the new index also finds the value as the attribute that it is
 abbrev pub IsNew : Keys → Attributes → ℕ → Type 0
 IsNew keys attributes number = (set : ℕ) (name : List ℕ) (other : ℕ) → keys number ≡ Some (set, name) →
     found_in attributes keys set name ≡ Some other → other ≡ number

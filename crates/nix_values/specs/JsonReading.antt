@@ -250,7 +250,7 @@ abbrev pub next_offset : {Z : Type 0} → Option (String Z × ℕ) → ℕ → �
 next_offset None at = at
 next_offset (Some n) at = n.1
 
--- the known name of a set begins at its offset, which precedes another one
+-- the next value has a name, which begins in a set at its offset, and this precedes another offset
 abbrev pub IsNamed : {Z : Type 0} → List ℕ → ℕ → ℕ → Option (String Z × ℕ) → Type 0
 IsNamed text at s None = ⊥
 IsNamed text at s (Some n) = (n.1 < at) × IsNameAt text n.1 s (string_bytes n.0)
