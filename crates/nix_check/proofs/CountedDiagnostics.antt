@@ -104,7 +104,7 @@ lints_found is_each root faults errors ds are no_error is = record {
 pub each_found : (root : Located) (faults : List Fault) (found : List Diagnostic) → ShowsEach root faults found → AreErrors true root faults found
 each_found root faults found each = record { each = λ _. each; shown = λ never. cc; runs = λ never. cc }
 
--- each mistake has its own diagnostic
+-- each run of errors has its own diagnostic
 pub runs_found : (root : Located) (faults : List Fault) (found : List Diagnostic) → Shows root faults faults found → CoverRuns root faults found →
     AreErrors false root faults found
 runs_found root faults found are cover = record { each = λ never. cc; shown = λ _. are; runs = λ _. cover }

@@ -15,11 +15,11 @@ form_feed = refl
 no_break_space : is_misread k.TOKEN_WHITESPACE (194 ∷ 160 ∷ []) ≡ true
 no_break_space = refl
 
--- a comment before a line end of a carriage return and a line feed: read alike
+-- a comment with only white space after its first carriage return: read alike
 line_end : is_misread k.TOKEN_COMMENT (codes "# a" ++ 13 ∷ 32 ∷ 13 ∷ []) ≡ false
 line_end = refl
 
--- a carriage return inside a comment: read differently
+-- a carriage return inside a comment: read differently after `#`, alike after `/*`
 inside : is_misread k.TOKEN_COMMENT (codes "# a" ++ 13 ∷ codes " b = 1;") ≡ true
 inside = refl
 

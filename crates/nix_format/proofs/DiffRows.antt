@@ -24,7 +24,7 @@ last_line_ended = refl
 empty_lines : lines_of (10 ∷ 10 ∷ 97 ∷ []) ≡ (10 ∷ []) ∷ (10 ∷ []) ∷ (97 ∷ []) ∷ []
 empty_lines = refl
 
--- a diff with an added line applies to no lines; reversed, it removes the line
+-- a diff with an added line turns an empty list of lines into this line; reversed, it removes the line
 added_comes : (line : Bor (List ℕ)) → applied_to (Added line ∷ []) [] ≡ Some (line.now ∷ [])
 added_comes line = refl
 

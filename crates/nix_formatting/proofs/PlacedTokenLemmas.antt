@@ -199,7 +199,7 @@ no_faults : (xs ys : List Token) (es : List Fault) → AreSameFaults xs ys [] es
 no_faults xs ys [] same = refl
 no_faults xs ys (e ∷ es) same = absurd same
 
--- if a text without errors changes only in white space, it is parsed as the same tree without white space
+-- if the new text has the same tokens other than white space as a text without errors, it is parsed as the same tree apart from trivia
 pub space_changed : (old new : List ℕ) (tree made : Tree) (faults : List Fault) → AreSound old (tokens_of old) → AreSound new (tokens_of new)
     → AreReadAlike old new → IsReading (tokens_of old) tree [] → IsReading (tokens_of new) made faults → visible_tokens_of new ≡ visible_tokens_of old
     → IsSpaceChange old new

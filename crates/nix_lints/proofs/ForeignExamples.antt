@@ -23,7 +23,7 @@ two_runs : runs_from 0 false (194 ∷ 160 ∷ 194 ∷ 160 ∷ 32 ∷ 11 ∷ 227 
 unfolding chars
 two_runs = refl
 
--- [, a no-break space and ]
+-- [, some white space and ]; with a no-break space
 abbrev list : List ℕ → Located
 list inside = record {
   tree = record {

@@ -93,7 +93,7 @@ in_let : repeated (node k.NODE_LET_IN (leaf k.TOKEN_LET (codes "let") (leaf k.TO
     ≡ again 8 4 ∷ []
 in_let = refl
 
--- {${a}=1;${a}=1;}
+-- `${a}` as a name: {${a}=1;${a}=1;}
 abbrev dynamic : Forest
 dynamic = node k.NODE_DYNAMIC (leaf k.TOKEN_INTERPOL_START (codes "${") (ident 97 (leaf k.TOKEN_INTERPOL_END (codes "}") empty))) empty
 

@@ -232,7 +232,7 @@ module _ (keys : Keys) (a b : Attributes) (s : ℕ) (n : List ℕ) (m p x : ℕ)
 
 -- ---- a value among the crowded
 
--- unchanged slots stay consistent
+-- an index with the slots of a consistent one is consistent, if its crowded attributes have the right set and name, and no search for them ends at a free slot
 sound_slots : (keys : Keys) (a b : Attributes) → b.slots ≡ a.slots → IsConsistent keys a →
     ((t : ℕ) (k : List ℕ) (y : ℕ) → crowded_at b t k ≡ Some y → (keys y ≡ Some (t, k)) × (y ≢ FREE)) →
     ((t : ℕ) (k : List ℕ) (y i : ℕ) → crowded_at b t k ≡ Some y → spot_at a t k ≡ Free i → ⊥) → IsConsistent keys b

@@ -83,7 +83,7 @@ none_inside groups late (suc levels) u past = ap (flat_map (subtree groups level
 
 -- ---- the last value and those that contain it
 
--- each number is the last one in its group, starting with a group
+-- the last value in a group, the last one inside that value, and so on: the list ends where nothing is inside
 abbrev pub IsChain : List ℕ → ℕ → List ℕ → Type 0
 IsChain groups u [] = members_from 0 groups u ≡ []
 IsChain groups u (c ∷ cs) = (front : List ℕ) × (members_from 0 groups u ≡ front ++ c ∷ []) × IsChain groups (suc c) cs

@@ -42,7 +42,7 @@ plain_byte : (b : ℕ) (bs : List ℕ) → is_plain b ≡ true → content 0 (b 
 unfolding content
 plain_byte b bs h = last_of_four (b == 34) (b == 92) (nat_lt b 32) _ _ _ _ h
 
--- a run before some bytes, whose first byte is plain or not
+-- the plain bytes at the beginning are their own value; so they are with one more byte in front, plain or not
 abbrev RunsOf : List ℕ → Type 0
 RunsOf bs = content 0 bs ≡ behind (take (prefix_len is_plain bs) bs) (prefix_len is_plain bs) (content 0 (drop (prefix_len is_plain bs) bs))
 
