@@ -120,7 +120,7 @@ begun_as _ place e values = scalar_begun place e values
 abbrev pub begun : Place → Located → List Built → Option (Option Place × List Built)
 begun place e values = begun_as (item_of e).kind place e values
 
--- the place of a node of a kind, if it is the next one inside another: the path of an entry has none
+-- the place of a node of a kind, given the place for the next node: the path of an entry has none
 abbrev pub place_for : SyntaxKind → Place → Place
 place_for kind place = if same_kind k.NODE_ATTRPATH kind then nowhere else place
 

@@ -25,7 +25,7 @@ pub record IsChanged (text : List ℕ) (occurrences : List Extent) (old new made
 abbrev pub LacksAt : List ℕ → List ℕ → Extent → Type 0
 LacksAt text name occurrence = ¬ (IsBetween text occurrence.start occurrence.end × ContainsAt text name occurrence)
 
--- the text does not contain the name in one of these ranges
+-- one of these ranges does not contain the name, or does not begin and end between characters of the text
 pub record IsMissing (text : List ℕ) (occurrences : List Extent) (name : List ℕ) : Type 0 where
   pub occurrence : Extent
   pub is_one : Contains occurrences occurrence
