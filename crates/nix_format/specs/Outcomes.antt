@@ -65,7 +65,7 @@ pub data IsFinished (task : Task) (name text made : List ℕ) (old new : Option 
 pub data IsTextFormatted (task : Task) (name text : List ℕ) (old new : Option (List ℕ)) : Outcome → Type 0 where
   -- it has errors
   faulty : IsWithErrors text → Keeps old new → IsTextFormatted task name text old new Failed
-  -- it has no errors, and `formatted` refuses it
+  -- it has no errors, and is refused all the same
   refused : IsWithoutErrors text → Keeps old new → IsTextFormatted task name text old new Failed
   -- it has a formatted text
   formatted : (made : List ℕ) (outcome : Outcome) → IsReformatted text made → IsFinished task name text made old new outcome →

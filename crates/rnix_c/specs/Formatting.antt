@@ -4,7 +4,7 @@ use Rattle.nix_formatting.specs.Reindented.{IsReformatted}
 use Rattle.nix_formatting.specs.Formatted.{IsWithErrors, IsWithoutErrors}
 use Rattle.rnix_c.specs.Answers.{no_memory, has_errors, different, IsRefused, IsWritten}
 
--- why no new text is written: memory is refused, the text has errors, or it has none and `formatted` refuses it
+-- why no new text is written: memory is refused, the text has errors, or it has none and is refused all the same
 abbrev pub IsUnformatted : List ℕ → ℤ → Type 0
 IsUnformatted text answer = (answer ≡ no_memory) ⊎ (((answer ≡ has_errors) × IsWithErrors text) ⊎ ((answer ≡ different) × IsWithoutErrors text))
 
