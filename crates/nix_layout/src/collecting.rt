@@ -6,7 +6,7 @@ use crate::frame::{Frame, NO_FRAME, has_group};
 use crate::grouping::{child_of, is_atom, plain_child};
 use crate::layout::{Group, Layout, Target};
 use crate::lines::with_lines;
-use crate::piece::{Piece, line_feeds_in};
+use crate::piece::{Piece, as_stored, line_feeds_in};
 use crate::spacing::{
     Child, Spacing, after_first_comma, around_text, broken, distant, keeps_distance, spacing_in,
 };
@@ -26,7 +26,7 @@ struct Collector {
     // The number of elements up to the end of the last string, path or name.
     atom_end: usize,
     // The number of line feeds after the last piece.
-    line_feeds: usize,
+    line_feeds: u8,
     // The number of the first piece whose gap is not set yet.
     first_unset: usize,
     // The spacing and the group of the next piece.
@@ -81,17 +81,16 @@ impl Collector {
 
     // Adds a piece, with the line feeds before it.
     fn add_piece(&mut self, piece: Piece) -> Result<(), AllocError> {
-        let line_feeds = self.line_feeds;
-        self.layout.pieces.push(Piece {
-            line_feeds,
-            ..piece
-        })?;
+        self.layout
+            .pieces
+            .push(piece.placed(self.line_feeds, piece.gap))?;
         self.line_feeds = 0;
         Ok(())
     }
 
     // Sets the gaps up to the last piece.
     fn finish_gaps(&mut self, spacing: Spacing, group: usize) {
+        let group = as_stored(group);
         set_gaps(&mut self.layout.pieces, self.first_unset, spacing, group);
         self.first_unset = self.layout.pieces.len();
     }
@@ -188,12 +187,8 @@ impl Collector {
             return self.add_item(word, kind);
         }
         let line_feeds = self.line_feeds;
-        let gap = plain_gap(self.spacing_before(kind), self.group, line_feeds);
-        self.layout.pieces.push(Piece {
-            line_feeds,
-            gap,
-            ..word
-        })?;
+        let gap = plain_gap(self.spacing_before(kind), as_stored(self.group), line_feeds);
+        self.layout.pieces.push(word.placed(line_feeds, gap))?;
         self.line_feeds = 0;
         self.first_unset = self.layout.pieces.len();
         self.last = kind;
@@ -206,7 +201,7 @@ impl Collector {
         let text = Piece::new(node.text_range().start(), node.text());
         let piece = with_lines(self.alloc, node, text, &mut self.layout.lines)?;
         self.add_item(piece, node.kind())?;
-        if piece.last_width.is_some() {
+        if piece.has_lines() {
             let target = Target {
                 open: number,
                 close: number,
@@ -301,12 +296,7 @@ impl Collector {
 
     // Enters a comment.
     fn enter_comment(&mut self, token: &SyntaxToken<'_>) -> Result<(), AllocError> {
-        let text = token.text();
-        self.add_piece(Piece {
-            is_comment: true,
-            ends_line: text.starts_with('#'),
-            ..Piece::new(token.text_range().start(), text)
-        })
+        self.add_piece(Piece::of_comment(token.text_range().start(), token.text()))
     }
 
     // Enters a token.

@@ -4,20 +4,20 @@ use crate::piece::{Gap, Level, Piece};
 use crate::spacing::Spacing;
 
 /// Returns the gap with a spacing, for a piece with a number of line feeds before it.
-pub fn plain_gap(spacing: Spacing, group: usize, line_feeds: usize) -> Gap {
+pub fn plain_gap(spacing: Spacing, group: u32, line_feeds: u8) -> Gap {
     Gap {
+        group,
         blanks: spacing.blanks,
         can_break: spacing.can_break,
         is_hard: spacing.is_hard || (spacing.keeps_break && line_feeds > 0),
         keeps_break: spacing.keeps_break,
         has_empty_line: spacing.keeps_empty && line_feeds > 1,
-        group,
         level: spacing.level,
     }
 }
 
 // Returns the same gap with a line feed.
-fn ended(gap: Gap, line_feeds: usize, may_be_empty: bool) -> Gap {
+fn ended(gap: Gap, line_feeds: u8, may_be_empty: bool) -> Gap {
     Gap {
         is_hard: true,
         has_empty_line: may_be_empty && line_feeds > 1,
@@ -49,7 +49,7 @@ fn comment_level(spacing: Spacing) -> Level {
 fn comment_gap(
     piece: &Piece,
     spacing: Spacing,
-    group: usize,
+    group: u32,
     is_first: bool,
     is_ended: bool,
     ends: bool,
@@ -71,7 +71,7 @@ fn comment_gap(
 }
 
 // Returns the gap before the piece that follows comments.
-fn gap_after(piece: &Piece, spacing: Spacing, group: usize, is_ended: bool) -> Gap {
+fn gap_after(piece: &Piece, spacing: Spacing, group: u32, is_ended: bool) -> Gap {
     let gap = plain_gap(spacing, group, piece.line_feeds);
     if is_ended {
         ended(gap, piece.line_feeds, !spacing.closes)
@@ -94,7 +94,7 @@ fn ends_line(pieces: &[Piece], number: usize) -> bool {
 }
 
 /// Sets the gaps of the pieces from a number on: comments, and perhaps a last piece that is not a comment.
-pub fn set_gaps(pieces: &mut Vec<Piece>, from: usize, spacing: Spacing, group: usize) {
+pub fn set_gaps(pieces: &mut Vec<Piece>, from: usize, spacing: Spacing, group: u32) {
     let mut is_ended = false;
     for number in from..pieces.len() {
         let ends = ends_line(pieces, number);

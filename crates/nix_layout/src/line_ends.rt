@@ -33,7 +33,7 @@ impl<'a> Search<'a> {
     // Returns the state after a piece before which there is no line end, or only one after a comment.
     fn after(self, piece: &Piece, found: Option<&'static str>) -> Search<'a> {
         Search {
-            start: piece.end,
+            start: piece.end(),
             follows_comment: piece.ends_line,
             comment_end: self.comment_end.or(found),
             ..self
@@ -54,7 +54,7 @@ impl<'a> Search<'a> {
 /// Returns the line end after the first comment with `#`, or a line feed if there is no such comment.
 pub fn comment_end_of(text: &str, pieces: &[Piece]) -> &'static str {
     let first = pieces.iter().find(|piece| piece.ends_line);
-    let comment = first.and_then(|piece| text.get(piece.start..piece.end));
+    let comment = first.and_then(|piece| text.get(piece.start()..piece.end()));
     if comment.is_some_and(|comment| comment.ends_with('\r')) {
         RETURN_AND_FEED
     } else {
@@ -69,16 +69,16 @@ pub fn line_end_of(text: &str, pieces: &[Piece]) -> &'static str {
         return FEED;
     };
     // There is no line end before the first line feed.
-    let passed = pieces.partition_point(|piece| piece.end <= feed);
+    let passed = pieces.partition_point(|piece| piece.end() <= feed);
     let (before, rest) = pieces.split_at(passed);
     let mut search = Search {
         text,
-        start: before.last().map_or(0, |piece| piece.end),
+        start: before.last().map_or(0, |piece| piece.end()),
         follows_comment: before.last().is_some_and(|piece| piece.ends_line),
         comment_end: None,
     };
     for piece in rest {
-        let found = search.end_before(piece.start);
+        let found = search.end_before(piece.start());
         match found {
             Some(end) if !search.follows_comment => return end,
             _ => search = search.after(piece, found),

@@ -2,7 +2,7 @@
 
 use crate::indentation::indentation_of;
 use crate::layout::STEP;
-use crate::piece::{MovedLines, Piece};
+use crate::piece::Piece;
 use rnix::{NodeOrToken, SyntaxElement, SyntaxKind, SyntaxNode, SyntaxToken, WalkEvent};
 use std::alloc::{AllocError, Global};
 
@@ -257,7 +257,7 @@ fn lines_of(alloc: Global, string: &SyntaxNode<'_>, least: usize) -> Result<Vec<
 
 // Returns the number of characters of a string's last line, if that is the given line; they are counted from the indentation of the code.
 fn last_width(piece: &Piece, text: &str, line: Line) -> Option<usize> {
-    let rest = text.get(line.end_of_blanks().saturating_sub(piece.start)..)?;
+    let rest = text.get(line.end_of_blanks().saturating_sub(piece.start())..)?;
     if rest.contains('\n') {
         return None;
     }
@@ -281,13 +281,5 @@ pub fn with_lines(
         Some(line) => last_width(&piece, string.text(), *line),
         None => None,
     };
-    Ok(Piece {
-        last_width: last.or(piece.last_width),
-        moved_lines: Some(MovedLines {
-            first,
-            end: lines.len(),
-            has_last: last.is_some(),
-        }),
-        ..piece
-    })
+    Ok(piece.with_moved_lines(first, lines.len(), last))
 }

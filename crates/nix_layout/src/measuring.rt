@@ -1,7 +1,7 @@
 //! Prefix sums of the widths of pieces, which tell in constant time whether a group fits on a line.
 
 use crate::layout::{Group, Layout, Target};
-use crate::piece::Piece;
+use crate::piece::{Piece, as_stored};
 use std::alloc::{AllocError, Global};
 
 /// Widths of pieces and ends of lines, summed up to each piece.
@@ -10,16 +10,16 @@ pub struct Measures {
     // One for each piece, and a last one for the whole text.
     sums: Vec<Sum>,
     // The number of columns from each gap to the next place where the line may end, in reverse order: the first is 0, for the end of the text.
-    tails: Vec<usize>,
+    tails: Vec<u32>,
 }
 
 // The sums up to a piece.
 #[derive(Clone, Copy)]
 struct Sum {
     // The column at which the piece ends, if all pieces are written on one line; 0 for the whole text.
-    end: usize,
+    end: u32,
     // The number of unconditional line ends before its gap, or in the whole text.
-    breaks: usize,
+    breaks: u32,
 }
 
 /// The space for a group on its line.
@@ -45,7 +45,15 @@ fn hard_gap(piece: &Piece) -> usize {
 
 // Returns whether a piece has several lines: 0 or 1.
 fn several_lines(piece: &Piece) -> usize {
-    usize::from(piece.last_width.is_some())
+    usize::from(piece.has_lines())
+}
+
+// Returns the sums up to a piece.
+fn sum_of(end: usize, breaks: usize) -> Sum {
+    Sum {
+        end: as_stored(end),
+        breaks: as_stored(breaks),
+    }
 }
 
 // Returns the column at which each piece ends, and the number of line ends before it.
@@ -55,31 +63,33 @@ fn sums_of(alloc: Global, pieces: &[Piece]) -> Result<Vec<Sum>, AllocError> {
     let mut breaks = 0usize;
     for piece in pieces {
         end = end
-            .saturating_add(piece.gap.blanks)
-            .saturating_add(piece.width);
-        sums.push(Sum { end, breaks })?;
+            .saturating_add(usize::from(piece.gap.blanks))
+            .saturating_add(piece.width());
+        sums.push(sum_of(end, breaks))?;
         breaks = breaks
             .saturating_add(hard_gap(piece))
             .saturating_add(several_lines(piece));
     }
-    sums.push(Sum { end: 0, breaks })?;
+    sums.push(sum_of(0, breaks))?;
     Ok(sums)
 }
 
 // Returns the number of columns from each gap to the next place where the line may end, in reverse order: the first is 0, for the end of the text.
-fn tails_of(alloc: Global, pieces: &[Piece]) -> Result<Vec<usize>, AllocError> {
+fn tails_of(alloc: Global, pieces: &[Piece]) -> Result<Vec<u32>, AllocError> {
     let mut tails = Vec::with_capacity(alloc, pieces.len().saturating_add(1))?;
     let mut tail = 0usize;
-    tails.push(tail)?;
+    tails.push(0)?;
     for piece in pieces.iter().rev() {
         let gap = piece.gap;
         if gap.can_break || gap.is_hard || piece.is_comment {
             tail = 0;
         } else {
-            let rest = if piece.last_width.is_some() { 0 } else { tail };
-            tail = rest.saturating_add(gap.blanks).saturating_add(piece.width);
+            let rest = if piece.has_lines() { 0 } else { tail };
+            tail = rest
+                .saturating_add(usize::from(gap.blanks))
+                .saturating_add(piece.width());
         }
-        tails.push(tail)?;
+        tails.push(as_stored(tail))?;
     }
     Ok(tails)
 }
@@ -97,7 +107,7 @@ impl Measures {
     pub fn count_breaks(&mut self, pieces: &[Piece]) {
         let mut breaks = 0usize;
         for number in 0..self.sums.len() {
-            self.sums[number].breaks = breaks;
+            self.sums[number].breaks = as_stored(breaks);
             if let Some(piece) = pieces.get(number) {
                 breaks = breaks
                     .saturating_add(hard_gap(piece))
@@ -109,22 +119,25 @@ impl Measures {
     /// Returns the number of columns from the gap before a piece to the next place where the line may end.
     pub fn tail(&self, piece: usize) -> usize {
         let index = self.tails.len().checked_sub(piece.saturating_add(1));
-        index.map_or(0, |index| self.tails.get(index).copied().unwrap_or(0))
+        index.map_or(
+            0,
+            |index| self.tails.get(index).map_or(0, |tail| *tail as usize),
+        )
     }
 
     // Returns the column at which a piece ends, or 0 beyond the last piece.
     fn end(&self, piece: usize) -> usize {
-        self.sums.get(piece).map_or(0, |sum| sum.end)
+        self.sums.get(piece).map_or(0, |sum| sum.end as usize)
     }
 
     // Returns the number of line ends before the gap of a piece, or in the whole text, or 0 beyond it.
     fn breaks(&self, piece: usize) -> usize {
-        self.sums.get(piece).map_or(0, |sum| sum.breaks)
+        self.sums.get(piece).map_or(0, |sum| sum.breaks as usize)
     }
 
     // Returns the width of the pieces from `first` to `last` on one line.
     fn width(&self, pieces: &[Piece], first: usize, last: usize) -> usize {
-        let own = pieces.get(first).map_or(0, |piece| piece.width);
+        let own = pieces.get(first).map_or(0, |piece| piece.width());
         let between = self.end(last).saturating_sub(self.end(first));
         between.saturating_add(own)
     }
@@ -188,5 +201,5 @@ impl Measures {
 
 // Returns the characters of the last line of a piece.
 fn last_width(piece: &Piece) -> usize {
-    piece.last_width.unwrap_or(piece.width)
+    piece.last_width().unwrap_or(piece.width())
 }

@@ -91,12 +91,12 @@ impl Modes {
 
     /// Returns whether the line ends in a gap.
     pub fn ends_line(&self, gap: Gap) -> bool {
-        gap.is_hard || (gap.can_break && self.is_broken(gap.group))
+        gap.is_hard || (gap.can_break && self.is_broken(gap.group as usize))
     }
 
     /// Returns the indentation of a line that begins after a gap.
     pub fn indent_after(&self, gap: Gap) -> usize {
-        indent_of(self.group_at(gap.group), gap.level)
+        indent_of(self.group_at(gap.group as usize), gap.level)
     }
 
     // Returns the number of columns that have to follow a group on its line.
@@ -108,12 +108,13 @@ impl Modes {
         if !gap.can_break || self.ends_line(gap) {
             return self.measures.tail(group.end);
         }
-        let rest = if next.last_width.is_some() {
+        let rest = if next.has_lines() {
             0
         } else {
             self.measures.tail(group.end.saturating_add(1))
         };
-        rest.saturating_add(gap.blanks).saturating_add(next.width)
+        rest.saturating_add(usize::from(gap.blanks))
+            .saturating_add(next.width())
     }
 
     // Returns the mode of a group that does not fit on the line.

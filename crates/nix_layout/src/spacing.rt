@@ -7,7 +7,7 @@ use rnix::SyntaxKind;
 #[derive(Clone, Copy)]
 pub struct Spacing {
     /// The number of spaces if the line does not end here.
-    pub blanks: usize,
+    pub blanks: u8,
     /// Whether the line ends here if the group is broken.
     pub can_break: bool,
     /// Whether the line always ends here.

@@ -89,7 +89,7 @@ impl<'a> Writer<'a> {
 
     // Copies a string, replacing the spaces at the start of its lines.
     fn write_lines(&mut self, piece: &Piece, moved_lines: MovedLines) -> Result<(), AllocError> {
-        let mut start = piece.start;
+        let mut start = piece.start();
         for number in moved_lines.first..moved_lines.end {
             if let Some(line) = self.layout.lines.get(number).copied() {
                 self.copy(start, line.start)?;
@@ -97,25 +97,25 @@ impl<'a> Writer<'a> {
                 start = line.end_of_blanks();
             }
         }
-        self.copy(start, piece.end)
+        self.copy(start, piece.end())
     }
 
     // Returns the column after a piece.
     fn column_after(&self, piece: &Piece) -> usize {
-        match (piece.last_width, piece.moved_lines) {
+        match (piece.last_width(), piece.moved_lines()) {
             (Some(width), Some(moved_lines)) if moved_lines.has_last => {
                 self.line_state.indent.saturating_add(width)
             }
             (Some(width), _) => width,
-            (None, _) => self.line_state.column.saturating_add(piece.width),
+            (None, _) => self.line_state.column.saturating_add(piece.width()),
         }
     }
 
     // Copies a piece.
     fn write_piece(&mut self, piece: &Piece) -> Result<(), AllocError> {
-        match piece.moved_lines {
+        match piece.moved_lines() {
             Some(moved_lines) => self.write_lines(piece, moved_lines)?,
-            None => self.copy(piece.start, piece.end)?,
+            None => self.copy(piece.start(), piece.end())?,
         }
         self.line_state.column = self.column_after(piece);
         self.follows_comment = piece.ends_line;
