@@ -8,9 +8,7 @@ mod style;
 mod tree;
 
 use html::write_text;
-use nix_cli::{
-    Arguments, FAILED, Program, Start, display_name, end, read_arguments, read_text, refuse,
-};
+use nix_cli::{Arguments, FAILED, Program, Start, display_name, end, read_arguments, read_text};
 use rnix::Root;
 use script::SCRIPT;
 use source::write_source;
@@ -60,7 +58,8 @@ fn show(rt: &HostRuntime, arguments: &Arguments) -> io::Result<u8> {
     let name = arguments.words.first().map_or("-", |name| name.as_str());
     match read_text(rt, &PROGRAM, name)? {
         Some(text) if text.len() > LONGEST => {
-            refuse(rt, &PROGRAM, "the text is longer than 1 MiB")?;
+            let shown = display_name(name);
+            eprintln!(rt; "nix-page: {shown}: the text is longer than 1 MiB")?;
             Ok(FAILED)
         }
         Some(text) => {
