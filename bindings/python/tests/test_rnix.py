@@ -6,6 +6,7 @@ import re
 import subprocess
 import sys
 import tempfile
+import textwrap
 import threading
 import unittest
 
@@ -313,6 +314,16 @@ class Edits(unittest.TestCase):
             updated = file.read_bytes()
         self.assertEqual(updated, text.replace(b"1.0", b"1.1").replace(b"old", rb"a\\b\"$\${c}"))
         self.assertIn(new, [rnix.value(string) for string in rnix.parse(updated).root.find(ast.Str)])
+
+    def test_the_example_of_the_readme_updates_a_version_and_a_hash(self):
+        page = (BINDINGS / "python" / "README.md").read_text()
+        example = textwrap.dedent(re.search(r"\n\n(    import pathlib\n(?:    .*\n|\n(?=    ))+)", page).group(1))
+        with tempfile.TemporaryDirectory() as folder:
+            file = pathlib.Path(folder) / "package.nix"
+            file.write_text('{ version = "1.0"; # pinned\n  hash = "old"; name = "a"; }\n')
+            subprocess.run([sys.executable, "-c", example], cwd=folder, check=True)
+            updated = file.read_text()
+        self.assertEqual(updated, '{ version = "1.2.0"; # pinned\n  hash = "sha256-AAAA"; name = "a"; }\n')
 
 
 class Header(unittest.TestCase):

@@ -1,10 +1,14 @@
-//! Tests of the examples in `docs`: uses of typed nodes, an edit, recursions and loops, and an `unwrap` that never fails.
+//! Tests of the examples in README.md and `docs`: uses of typed nodes, an edit, messages and fixes, recursions and loops, and an `unwrap` that never fails.
 #![tactic(auto)]
 
 #[cfg(test)]
 mod chains;
 #[cfg(test)]
 mod edits;
+#[cfg(test)]
+mod messages;
+#[cfg(test)]
+mod readme;
 #[cfg(test)]
 mod recursion;
 #[cfg(test)]

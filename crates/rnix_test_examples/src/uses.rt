@@ -1,8 +1,9 @@
-//! Three uses of typed nodes, as docs/uses.md shows them.
+//! Uses of typed nodes, as docs/uses.md and docs/first-program.md show them.
 
 use rnix::Root;
 use rnix::ast::{
-    AstNode, Attr, AttrSet, Attrpath, Entry, Expr, HasEntry, InterpolPart, LetIn, Str,
+    AstNode, Attr, AttrSet, Attrpath, AttrpathValue, Entry, Expr, HasEntry, InterpolPart, LetIn,
+    Str,
 };
 use std::alloc::{AllocError, Global};
 use std::io;
@@ -120,5 +121,27 @@ fn the_text_of_an_indented_string(rt: HostRuntime) -> Result<(), Fail> {
     };
     let found = text_of(rt.alloc(), &string)?;
     assert!(rt; found.is_some_and(|found| found.as_str() == "cd $out\n  echo ${HOME}\n"));
+    Ok(())
+}
+
+// Returns the name that an entry binds, if its path is one plain name.
+fn single_name<'t>(entry: &AttrpathValue<'t>) -> Option<&'t str> {
+    let mut names = entry.attrpath()?.attrs();
+    match (names.next(), names.next()) {
+        (Some(Attr::Ident(name)), None) => Some(name.syntax().text()),
+        _ => None,
+    }
+}
+
+#[test]
+fn an_entry_binds_a_single_name(rt: HostRuntime) -> Result<(), Fail> {
+    let read = Root::parse(rt.alloc(), "{ a = 1; b.c = 2; \"d\" = 3; e = 4; }")?;
+    let mut names = String::new(rt.alloc());
+    if let Some(Expr::AttrSet(set)) = read.tree().expr() {
+        for entry in set.attrpath_values() {
+            names.push_str(single_name(&entry).unwrap_or("-"))?;
+        }
+    }
+    assert_eq!(rt; names.as_str(), "a--e");
     Ok(())
 }
