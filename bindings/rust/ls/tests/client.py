@@ -4,6 +4,7 @@ import glob
 import json
 import os
 import select
+import statistics
 import subprocess
 
 PROGRAM = os.environ.get("RNIX_LS", "rnix-ls")
@@ -151,6 +152,16 @@ class Client:
         """Returns the resident memory in bytes."""
         with open(f"/proc/{self.process.pid}/statm", encoding="ascii") as file:
             return int(file.read().split()[1]) * os.sysconf("SC_PAGE_SIZE")
+
+
+def growth(sizes):
+    """Returns how many bytes a size grows from each measurement to the next, and how many times as large it is at the end as after the first tenth.
+
+    Each tenth of the measurements counts with its least one, and the growth is the median of those from one tenth to the next: a heap also grows in
+    single steps, but a leak grows all the time."""
+    tenth = len(sizes) // 10
+    least = [min(sizes[start : start + tenth]) for start in range(0, 10 * tenth, tenth)]
+    return statistics.median(after - before for before, after in zip(least, least[1:])) / tenth, least[-1] / least[1]
 
 
 def place(position):

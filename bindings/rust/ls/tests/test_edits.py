@@ -4,7 +4,7 @@ import random
 import re
 import unittest
 
-from client import URI, Client, frame, patched, place
+from client import URI, Client, frame, growth, patched, place
 
 OTHER = "file:///other.nix"
 
@@ -214,16 +214,18 @@ class Edits(unittest.TestCase):
         text = packages(20_000)
         self.client.open(text)
         name = self.client.at("semanticTokens/full")["resultId"]
-        sizes = {}
-        for count in range(10_001):
+        sizes = []
+        for count in range(10_000):
             self.client.change(((100, 0), (100, count % 2), " "[count % 2 :]))
             if count % 10 == 0:
                 name = self.delta(name)["resultId"]
                 self.client.diagnostics()
-            sizes[count] = self.client.memory()
-        print("memory after 10, 1,000 and 10,000 edits:", *(sizes[it] // 1000 for it in (10, 1000, 10_000)), "KB")
-        # The heap grows in the first hundred edits. Seventy bytes kept for each later edit would be a tenth more.
-        self.assertLess(sizes[10_000], sizes[1000] * 1.1)
+            sizes.append(self.client.memory())
+        leak, ratio = growth(sizes)
+        print(f"memory: {leak:.1f} bytes more after each edit, and {ratio:.2f} times as much after 10,000 as after 1,000")
+        self.assertLess(leak, 50)
+        self.assertLess(ratio, 1.5)
+        # The heap grows in the first hundred edits.
         self.assertLess(sizes[1000], sizes[10] * 2)
 
 
