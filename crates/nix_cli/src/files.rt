@@ -335,11 +335,24 @@ impl Inputs {
     }
 }
 
-/// Writes a text to a file in place of the old one, or to standard output.
-pub fn write_text(rt: &HostRuntime, name: &str, text: &str, in_place: bool) -> io::Result<()> {
-    if in_place {
-        replace_text(rt, name, text)
-    } else {
-        rt.stdout().write_all(text.as_bytes())
+/// Writes a text to a file in place of the old one, or to standard output. Returns the exit status: 0, or [`FAILED`] after reporting why the file cannot be
+/// replaced.
+pub fn write_text(
+    rt: &HostRuntime,
+    program: &Program,
+    name: &str,
+    text: &str,
+    in_place: bool,
+) -> io::Result<u8> {
+    if !in_place {
+        rt.stdout().write_all(text.as_bytes())?;
+        return Ok(0);
+    }
+    match replace_text(rt, name, text) {
+        Ok(()) => Ok(0),
+        Err(error) => {
+            eprintln!(rt; "{}: {name}: {error}", program.name)?;
+            Ok(FAILED)
+        }
     }
 }

@@ -19,7 +19,7 @@ fn is_joining(operator: Option<BinOpKind>) -> bool {
 
 // Returns whether a call is broken at its end, and not between parentheses.
 fn is_tail_call(child: SyntaxKind, target: Target, end: usize) -> bool {
-    let is_last = target.close.saturating_add(1) == end;
+    let is_last = target.close().saturating_add(1) == end;
     child == SyntaxKind::NODE_APPLY && is_last && !target.is_paren
 }
 
@@ -79,11 +79,7 @@ pub fn own_target(kind: SyntaxKind, open: usize, end: usize) -> Option<Target> {
     let close = end.saturating_sub(1);
     let is_filled = close > open.saturating_add(1);
     let is_paren = kind == SyntaxKind::NODE_PAREN;
-    let target = Target {
-        open,
-        close,
-        is_paren,
-    };
+    let target = Target::new(open, close, is_paren);
     match kind {
         SyntaxKind::NODE_ATTR_SET | SyntaxKind::NODE_LIST | SyntaxKind::NODE_PAREN if is_filled => {
             Some(target)

@@ -31,7 +31,7 @@ struct Collector {
     first_unset: usize,
     // The spacing and the group of the next piece.
     spacing: Spacing,
-    group: usize,
+    group: u32,
     // The kind of the last item.
     last: SyntaxKind,
 }
@@ -57,25 +57,19 @@ impl Collector {
     }
 
     // Opens a group at the next piece, inside another one.
-    fn open_group(&mut self, parent: usize, kind: SyntaxKind) -> Result<usize, AllocError> {
-        let number = self.layout.groups.len();
-        let first = self.layout.pieces.len();
-        self.layout.groups.push(Group {
-            first,
-            end: first,
-            parent,
-            target: None,
-            absorbs: absorbs(kind),
-        })?;
+    fn open_group(&mut self, parent: u32, kind: SyntaxKind) -> Result<u32, AllocError> {
+        let number = as_stored(self.layout.groups.len());
+        let group = Group::new(self.layout.pieces.len(), parent, absorbs(kind));
+        self.layout.groups.push(group)?;
         Ok(number)
     }
 
     // Closes a group after the last piece.
-    fn close_group(&mut self, number: usize, target: Option<Target>) {
+    fn close_group(&mut self, number: u32, target: Option<Target>) {
+        let number = number as usize;
         let end = self.layout.pieces.len();
         if number < self.layout.groups.len() {
-            self.layout.groups[number].end = end;
-            self.layout.groups[number].target = target;
+            self.layout.groups[number] = self.layout.groups[number].closed(end, target);
         }
     }
 
@@ -89,8 +83,7 @@ impl Collector {
     }
 
     // Sets the gaps up to the last piece.
-    fn finish_gaps(&mut self, spacing: Spacing, group: usize) {
-        let group = as_stored(group);
+    fn finish_gaps(&mut self, spacing: Spacing, group: u32) {
         set_gaps(&mut self.layout.pieces, self.first_unset, spacing, group);
         self.first_unset = self.layout.pieces.len();
     }
@@ -138,7 +131,7 @@ impl Collector {
     fn note_bracket(&mut self) {
         let top = self.frames.len().saturating_sub(1);
         if top < self.frames.len() {
-            self.frames[top].open = self.layout.pieces.len().saturating_sub(1);
+            self.frames[top].open = as_stored(self.layout.pieces.len().saturating_sub(1));
         }
     }
 
@@ -187,7 +180,7 @@ impl Collector {
             return self.add_item(word, kind);
         }
         let line_feeds = self.line_feeds;
-        let gap = plain_gap(self.spacing_before(kind), as_stored(self.group), line_feeds);
+        let gap = plain_gap(self.spacing_before(kind), self.group, line_feeds);
         self.layout.pieces.push(word.placed(line_feeds, gap))?;
         self.line_feeds = 0;
         self.first_unset = self.layout.pieces.len();
@@ -202,11 +195,7 @@ impl Collector {
         let piece = with_lines(self.alloc, node, text, &mut self.layout.lines)?;
         self.add_item(piece, node.kind())?;
         if piece.has_lines() {
-            let target = Target {
-                open: number,
-                close: number,
-                is_paren: false,
-            };
+            let target = Target::new(number, number, false);
             self.offer_target(node.kind(), Some(target));
         }
         Ok(())
@@ -267,7 +256,7 @@ impl Collector {
         self.frames.push(Frame {
             kind,
             operator,
-            open: self.layout.pieces.len(),
+            open: as_stored(self.layout.pieces.len()),
             group,
             inner,
             is_own,
@@ -323,7 +312,7 @@ impl Collector {
     fn leave_node(&mut self) {
         if let Some(frame) = self.frames.pop() {
             let end = self.layout.pieces.len();
-            let own = own_target(frame.kind, frame.open, end);
+            let own = own_target(frame.kind, frame.open as usize, end);
             let target = if frame.kind == SyntaxKind::NODE_PAREN {
                 frame.target.or(own)
             } else {

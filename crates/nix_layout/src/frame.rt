@@ -11,10 +11,10 @@ pub struct Frame {
     pub kind: SyntaxKind,
     pub operator: Option<BinOpKind>,
     /// The number of its opening bracket, or of its first piece if it has none.
-    pub open: usize,
+    pub open: u32,
     /// The number of its group, and of the group of its condition.
-    pub group: usize,
-    pub inner: usize,
+    pub group: u32,
+    pub inner: u32,
     /// Whether the group began with the node.
     pub is_own: bool,
     /// The kind of its last child so far that is not trivia.

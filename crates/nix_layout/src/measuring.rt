@@ -152,41 +152,41 @@ impl Measures {
 
     /// Returns whether a group fits on the line.
     pub fn fits(&self, pieces: &[Piece], group: &Group, room: Room) -> bool {
-        let width = self.width(pieces, group.first, group.end.saturating_sub(1));
-        self.breaks_inside(pieces, group.first, group.end) == 0
+        let width = self.width(pieces, group.first(), group.end().saturating_sub(1));
+        self.breaks_inside(pieces, group.first(), group.end()) == 0
             && room.column.saturating_add(width).saturating_add(room.tail) <= room.limit
     }
 
     // Returns whether the pieces up to the one that opens the target fit on the line.
     fn fits_before(&self, pieces: &[Piece], group: &Group, target: Target, room: Room) -> bool {
-        let width = self.width(pieces, group.first, target.open);
-        let hard = pieces.get(target.open).map_or(0, |piece| hard_gap(piece));
-        let breaks = self.breaks_inside(pieces, group.first, target.open);
-        let is_first = target.open == group.first;
+        let width = self.width(pieces, group.first(), target.open());
+        let hard = pieces.get(target.open()).map_or(0, |piece| hard_gap(piece));
+        let breaks = self.breaks_inside(pieces, group.first(), target.open());
+        let is_first = target.open() == group.first();
         (is_first || breaks.saturating_add(hard) == 0)
             && room.column.saturating_add(width) <= room.limit
     }
 
     // Returns whether the pieces from the one that closes the target on fit on the last line.
     fn fits_after(&self, pieces: &[Piece], group: &Group, target: Target, room: Room) -> bool {
-        let close = pieces.get(target.close).map_or(0, last_width);
-        let last = self.end(group.end.saturating_sub(1));
-        let behind = last.saturating_sub(self.end(target.close));
-        let before = self.breaks(target.close.saturating_add(1));
-        let breaks = self.breaks(group.end).saturating_sub(before);
+        let close = pieces.get(target.close()).map_or(0, last_width);
+        let last = self.end(group.end().saturating_sub(1));
+        let behind = last.saturating_sub(self.end(target.close()));
+        let before = self.breaks(target.close().saturating_add(1));
+        let breaks = self.breaks(group.end()).saturating_sub(before);
         let column = room.indent.saturating_add(close).saturating_add(behind);
         breaks == 0 && column.saturating_add(room.tail) <= room.limit
     }
 
     // Returns whether the target has to be broken: it has several lines, does not fit on the line, or ends the group.
     fn has_to_break(&self, pieces: &[Piece], group: &Group, target: Target, room: Room) -> bool {
-        let width = self.width(pieces, group.first, target.close);
-        let behind = target.close.saturating_add(1);
+        let width = self.width(pieces, group.first(), target.close());
+        let behind = target.close().saturating_add(1);
         let glued = self.tail(behind);
-        let is_last = behind >= group.end
+        let is_last = behind >= group.end()
             || pieces.get(behind).map_or(0, |piece| piece.gap.blanks) == 0;
-        (target.is_paren && self.width(pieces, target.open, target.close) > WIDE)
-            || self.breaks_inside(pieces, target.open, target.close.saturating_add(1)) > 0
+        (target.is_paren && self.width(pieces, target.open(), target.close()) > WIDE)
+            || self.breaks_inside(pieces, target.open(), target.close().saturating_add(1)) > 0
             || is_last
             || room.column.saturating_add(width).saturating_add(glued) > room.limit
     }

@@ -2,7 +2,7 @@
 
 use crate::layout::{Group, Layout, STEP};
 use crate::measuring::{Measures, Room};
-use crate::piece::{Gap, Level};
+use crate::piece::{Gap, Level, as_stored};
 use std::alloc::{AllocError, Global};
 
 // The number of columns of a line.
@@ -34,22 +34,40 @@ pub struct LineState {
 #[derive(Clone, Copy)]
 struct Opened {
     mode: Mode,
-    // Where it begins.
-    line_state: LineState,
+    // Where it begins: the column, and the indentation of the line.
+    column: u32,
+    indent: u32,
 }
 
 // The state of a group that does not exist.
 const UNKNOWN: Opened = Opened {
     mode: Mode::Broken,
-    line_state: LineState {
-        column: 0,
-        indent: 0,
-    },
+    column: 0,
+    indent: 0,
 };
+
+impl Opened {
+    // Returns a group with its mode that begins in a state of its line.
+    fn new(mode: Mode, line_state: LineState) -> Opened {
+        Opened {
+            mode,
+            column: as_stored(line_state.column),
+            indent: as_stored(line_state.indent),
+        }
+    }
+
+    // Returns the state of the line in which it begins.
+    fn line_state(self) -> LineState {
+        LineState {
+            column: self.column as usize,
+            indent: self.indent as usize,
+        }
+    }
+}
 
 // Returns the indentation of a line of a group.
 fn indent_of(opened: Opened, level: Level) -> usize {
-    let LineState { column, indent } = opened.line_state;
+    let LineState { column, indent } = opened.line_state();
     let is_same = match level {
         Level::Same => true,
         Level::Inner => false,
@@ -101,17 +119,17 @@ impl Modes {
 
     // Returns the number of columns that have to follow a group on its line.
     fn tail_of(&self, layout: &Layout, group: &Group) -> usize {
-        let Some(next) = layout.pieces.get(group.end) else {
+        let Some(next) = layout.pieces.get(group.end()) else {
             return 0;
         };
         let gap = next.gap;
         if !gap.can_break || self.ends_line(gap) {
-            return self.measures.tail(group.end);
+            return self.measures.tail(group.end());
         }
         let rest = if next.has_lines() {
             0
         } else {
-            self.measures.tail(group.end.saturating_add(1))
+            self.measures.tail(group.end().saturating_add(1))
         };
         rest.saturating_add(usize::from(gap.blanks))
             .saturating_add(next.width())
@@ -139,11 +157,11 @@ impl Modes {
         group: &Group,
         line_state: LineState,
     ) -> Mode {
-        let around = self.group_at(group.parent).mode;
+        let around = self.group_at(group.parent as usize).mode;
         if number > 0 && around == Mode::Flat {
             return Mode::Flat;
         }
-        let outer = match layout.groups.get(group.parent) {
+        let outer = match layout.groups.get(group.parent as usize) {
             Some(outer) if around == Mode::Around => outer.target,
             _ => None,
         };
@@ -173,11 +191,11 @@ impl Modes {
             let Some(group) = layout.groups.get(number) else {
                 break;
             };
-            if group.first > piece {
+            if group.first() > piece {
                 break;
             }
             let mode = self.mode_of(layout, number, group, line_state);
-            self.opened.push(Opened { mode, line_state })?;
+            self.opened.push(Opened::new(mode, line_state))?;
         }
         Ok(())
     }
@@ -186,7 +204,7 @@ impl Modes {
     fn is_kept(&self, layout: &Layout, number: usize) -> bool {
         match (layout.groups.get(number), self.opened.get(number)) {
             (Some(group), Some(opened)) => {
-                self.mode_of(layout, number, group, opened.line_state) == opened.mode
+                self.mode_of(layout, number, group, opened.line_state()) == opened.mode
             }
             _ => true,
         }

@@ -92,7 +92,7 @@ pub fn line_feeds_in(text: &str) -> u8 {
     u8::try_from(count).unwrap_or(u8::MAX)
 }
 
-/// Returns a number of bytes, characters, pieces, groups or lines of a text, as a piece stores it. A sum of widths that is 2^32 or more becomes 2^32 - 1.
+/// Returns a number of bytes, characters, pieces, groups or lines of a text, as it is stored. A sum of widths that is 2^32 or more becomes 2^32 - 1.
 pub fn as_stored(number: usize) -> u32 {
     u32::try_from(number).unwrap_or(u32::MAX)
 }

@@ -64,20 +64,6 @@ fn refuse_text(rt: &HostRuntime, name: &str, text: &str, read: &Parse) -> io::Re
     Ok(FAILED)
 }
 
-// Writes a text with the new name, and returns the exit status. Reports why a file cannot be replaced.
-fn write_renamed(rt: &HostRuntime, name: &str, made: &str, in_place: bool) -> io::Result<u8> {
-    match write_text(rt, name, made, in_place) {
-        Ok(()) => Ok(0),
-        Err(error) => {
-            if !in_place {
-                return Err(error);
-            }
-            eprintln!(rt; "nix-rename: {name}: {error}")?;
-            Ok(FAILED)
-        }
-    }
-}
-
 // Writes the text in which the binding of the name at a place has a new name.
 fn rename_at(
     rt: &HostRuntime,
@@ -99,7 +85,7 @@ fn rename_at(
         return Ok(FAILED);
     };
     match rename(rt.alloc(), text, &read.syntax(), offset, new) {
-        Ok(Renaming::Renamed(made)) => write_renamed(rt, name, made.as_str(), in_place),
+        Ok(Renaming::Renamed(made)) => write_text(rt, &PROGRAM, name, made.as_str(), in_place),
         Ok(Renaming::Refused(reason)) => {
             eprintln!(rt; "nix-rename: {}:{location}: {reason}", display_name(name))?;
             Ok(FOUND)

@@ -141,20 +141,6 @@ fn refuse_update(rt: &HostRuntime, name: &str, text: &str, refused: Refused) -> 
 // The message for the case that the value of a name of a `let` is set.
 const SET_IN_LET: &str = "no attribute has this path: this name of a `let` is set";
 
-// Writes an updated text, and returns the exit status. Reports why a file cannot be replaced.
-fn write_updated(rt: &HostRuntime, name: &str, made: &str, in_place: bool) -> io::Result<u8> {
-    match write_text(rt, name, made, in_place) {
-        Ok(()) => Ok(0),
-        Err(error) => {
-            if !in_place {
-                return Err(error);
-            }
-            eprintln!(rt; "nix-update: {name}: {error}")?;
-            Ok(FAILED)
-        }
-    }
-}
-
 // Writes the updated text of a file.
 fn update_file(rt: &HostRuntime, name: &str, update: Update<'_>, in_place: bool) -> io::Result<u8> {
     if in_place && name == "-" {
@@ -165,9 +151,9 @@ fn update_file(rt: &HostRuntime, name: &str, update: Update<'_>, in_place: bool)
         return Ok(FAILED);
     };
     match updated(rt.alloc(), text.as_str(), update)? {
-        Outcome::Updated(made) => write_updated(rt, name, made.as_str(), in_place),
+        Outcome::Updated(made) => write_text(rt, &PROGRAM, name, made.as_str(), in_place),
         Outcome::SetInLet(made, offset) => {
-            let status = write_updated(rt, name, made.as_str(), in_place)?;
+            let status = write_text(rt, &PROGRAM, name, made.as_str(), in_place)?;
             if status == 0 {
                 report(rt, name, text.as_str(), Some(offset), SET_IN_LET)?;
             }
