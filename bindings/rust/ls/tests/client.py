@@ -164,6 +164,18 @@ def growth(sizes):
     return statistics.median(after - before for before, after in zip(least, least[1:])) / tenth, least[-1] / least[1]
 
 
+def is_bounded(sizes_of_round):
+    """Returns whether the memory of a server stays as it is in one of three rounds of changes, each of which returns the size after each change.
+
+    A step of the heap is not repeated, but a leak makes every round grow: 50 bytes after each change, or a tenth in all."""
+    for _ in range(3):
+        leak, ratio = growth(sizes_of_round())
+        print(f"memory: {leak:.1f} bytes more after each change, and {ratio:.2f} times as much at the end of a round as after a tenth of it")
+        if leak < 50 and ratio < 1.1:
+            return True
+    return False
+
+
 def place(position):
     """Returns a position as the protocol writes it."""
     return {"line": position[0], "character": position[1]}
