@@ -12,8 +12,8 @@
  * A negative result is a refusal (enum rnix_refusal). The caller's arrays are then unchanged, except those of rnix_tokens. A text that is not
  * UTF-8 is always refused with RNIX_NOT_UTF8.
  *
- * The result of each call, and what it writes, are proved: docs/theorems.md, "Calls from C". This header, and callers in other languages, are
- * tested. Only rnix_parse_again and rnix_names_again take arrays that an earlier call has filled. They trust these arrays.
+ * docs/theorems.md, "Calls from C", says what is proved of the result of each call and of what it writes. This header, and callers in other
+ * languages, are tested. Only rnix_parse_again and rnix_names_again take arrays that an earlier call has filled. They trust these arrays.
  *
  * Any number of threads may call at the same time: calls share only the C library's malloc, realloc and free, which must be thread-safe. Do not
  * call from a signal handler. No text makes a call need a deep stack. The code needs a processor of the level x86-64-v2 (since about 2009).
@@ -348,9 +348,11 @@ int64_t rnix_parse_compact(const uint8_t *text, size_t len, struct rnix_range *r
 
 /*
  * Parses a text after an edit that replaces its bytes from `start` to `end`, and writes what rnix_parse_compact would write for the new text. If the
- * text has no errors before the edit, most of its tree is copied, which takes a fraction of the time of a parse.
- * `text` is the text before the edit. `ranges` and `links`, each with its length, and `error_count` are what rnix_parse_compact, or this call, has
- * written for that text: the arrays hold all of its elements. They are not checked: with others, the behavior is undefined.
+ * text has no errors before the edit, and the edit is between brackets, it often parses only these and copies the rest of the tree, which takes a
+ * fraction of the time of a parse.
+ * `text` is the text before the edit. `ranges`, `links` and `error_count` are what rnix_parse_compact, or this call, has written for that text:
+ * all of its elements. `range_count` and `link_count` are the number of elements that it returned, not the room of the arrays. Nothing of this is
+ * checked: with other arrays or numbers, the behavior is undefined.
  * Returns the number of elements of the new tree. Refusals: RNIX_NOT_UTF8 (either text), RNIX_TOO_LONG (either text, or the new one),
  * RNIX_NO_MEMORY; RNIX_NONE_SUCH if `start` is after `end`, or one of them is after the end of the text or inside a character.
  */

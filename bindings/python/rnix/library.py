@@ -228,7 +228,13 @@ def count_of(result: int) -> int:
 def room_for(kind: Any, count: int) -> Any:
     """Returns an array of `count` values. A large one is mapped, so that its pages cost nothing until they are written."""
     size = ctypes.sizeof(kind) * count
-    return (kind * count).from_buffer(mmap.mmap(-1, size)) if size > mmap.PAGESIZE else (kind * count)()
+    if size <= mmap.PAGESIZE:
+        return (kind * count)()
+    try:
+        mapped = mmap.mmap(-1, size)
+    except OSError as error:
+        raise MemoryError("out of memory") from error
+    return (kind * count).from_buffer(mapped)
 
 
 def listed(kind: Any, call: Callable[[Any, int], Any], guess: int = 0) -> tuple[Any, int]:

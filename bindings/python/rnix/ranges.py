@@ -4,7 +4,7 @@ from __future__ import annotations
 
 
 class EditError(ValueError):
-    """An edit that was refused: its range is not in the text, splits a character, or overlaps that of another edit."""
+    """An edit that was refused: its range is not in the text, splits a character, or overlaps that of another edit, or its node is of another tree."""
 
 
 def _is_inside_char(source: bytes, offset: int) -> bool:

@@ -40,7 +40,7 @@ _PART_LONGS = 4
 class Tree:
     """The tree of a text, and its errors. It is immutable, so threads may share it."""
 
-    __slots__ = ("_ends", "_insides", "_kept", "_kinds", "_line_starts", "_parents", "_parts", "_starts", "errors", "source")
+    __slots__ = ("_ends", "_errors", "_insides", "_kept", "_kinds", "_line_starts", "_parents", "_parts", "_source", "_starts")
 
     def __init__(self, source: bytes) -> None:
         self._read(source, LIBRARY.rnix_parse_compact, (source, len(source)), 2 * len(source) + 8)
@@ -64,15 +64,25 @@ class Tree:
         self._starts, self._ends = (range_bytes.cast("I")[column::_RANGE] for column in range(_RANGE))
         self._parents, self._insides = (link_bytes.cast("I")[column::_LINK] for column in range(_LINK - 1))
         self._kinds = link_bytes[_KIND :: _SIZE * _LINK].tobytes()
-        self.source = source
-        self.errors: list[ParseError] = errors_of(source, faults, count.value) if count.value else []
+        self._source = source
+        self._errors: list[ParseError] = errors_of(source, faults, count.value) if count.value else []
         self._line_starts: list[int] | None = None
         self._parts: dict[int, list[str | None]] | None = None
 
     @property
+    def source(self) -> bytes:
+        """The whole text, as bytes."""
+        return self._source
+
+    @property
+    def errors(self) -> list[ParseError]:
+        """The errors, in the order in which the parser finds them."""
+        return self._errors
+
+    @property
     def text(self) -> str:
         """The whole text."""
-        return self.source.decode()
+        return self._source.decode()
 
     @property
     def root(self) -> Root:
@@ -97,30 +107,35 @@ class Tree:
     def reparse(self, what: Element | tuple[int, int], new: str) -> Tree:
         """Returns the tree of the text in which `new` replaces a node, a token or a byte range: that of `parse` for the new text.
 
-        If this text has no errors, most of its tree is copied, so that it takes a fraction of the time. This tree stays as it is.
+        If this text has no errors, most of its tree is copied, so that it takes a fraction of the time. This tree stays as it is. An element of another
+        tree raises EditError.
         """
-        start, end = ranges.checked(self.source, *(what.range if isinstance(what, Element) else what))
+        if isinstance(what, Element) and what.tree is not self:
+            raise ranges.EditError(f"{what!r} is of another tree")
+        start, end = ranges.checked(self._source, *(what.range if isinstance(what, Element) else what))
         replacement = new.encode()
-        source = self.source[:start] + replacement + self.source[end:]
-        arguments = (self.source, len(self.source), *self._kept, start, end, replacement, len(replacement))
+        source = self._source[:start] + replacement + self._source[end:]
+        arguments = (self._source, len(self._source), *self._kept, start, end, replacement, len(replacement))
         tree = Tree.__new__(Tree)
         tree._read(source, LIBRARY.rnix_parse_again, arguments, len(self._kinds) + 2 * len(replacement) + 8)
         return tree
 
     def position(self, offset: int) -> tuple[int, int]:
-        """Returns the line and column of a byte offset, both counted from 1. Columns count characters."""
+        """Returns the line and column of a byte offset, both counted from 1. Columns count characters. A negative offset raises ValueError."""
+        if offset < 0:
+            raise ValueError(f"{offset} is not in the text")
         if self._line_starts is None:
             starts = [0]
-            while (feed := self.source.find(b"\n", starts[-1])) >= 0:
+            while (feed := self._source.find(b"\n", starts[-1])) >= 0:
                 starts.append(feed + 1)
             self._line_starts = starts
         line = bisect.bisect_right(self._line_starts, offset)
-        return line, len(self.source[self._line_starts[line - 1] : offset].decode(errors="ignore")) + 1
+        return line, len(self._source[self._line_starts[line - 1] : offset].decode(errors="ignore")) + 1
 
     def _string_parts(self) -> dict[int, list[str | None]]:
         """The parts of all strings that have some, by the numbers of the strings. None stands for an interpolation."""
         if self._parts is None:
-            source = self.source
+            source = self._source
             room, count, text, text_len = library.listed_twice(
                 library.StringPart,
                 ctypes.c_char,
@@ -190,7 +205,7 @@ class Element:
     @property
     def text(self) -> str:
         """The text."""
-        return self.tree.source[self.start : self.end].decode()
+        return self.tree._source[self.start : self.end].decode()
 
     @property
     def parent(self) -> Node | None:

@@ -8,6 +8,7 @@ import sys
 import tempfile
 import textwrap
 import threading
+import time
 import unittest
 
 from cases import stored
@@ -130,6 +131,30 @@ class Trees(unittest.TestCase):
         for thing in (5, None, ["a"]):
             self.assertRaises(TypeError, rnix.parse, thing)
             self.assertRaises(TypeError, rnix.tokenize, thing)
+
+    def test_the_text_and_the_errors_of_a_tree_cannot_be_replaced(self):
+        tree = rnix.parse("a (b c)")
+        for name, value in (("source", b"x"), ("errors", [])):
+            self.assertRaises(AttributeError, setattr, tree, name, value)
+        self.assertEqual(tree.reparse((0, 1), "x").text, "x (b c)")
+
+    def test_a_negative_offset_has_no_position(self):
+        tree = rnix.parse("a\nb")
+        self.assertEqual(tree.position(2), (2, 1))
+        self.assertRaises(ValueError, tree.position, -1)
+
+    def test_a_lack_of_memory_is_a_memory_error(self):
+        program = textwrap.dedent("""
+            import resource
+            import rnix
+            resource.setrlimit(resource.RLIMIT_AS, (1000 * 2**20, 1000 * 2**20))
+            try:
+                rnix.parse(b"a " * 15_000_000)
+            except MemoryError as error:
+                print("MemoryError:", error)
+        """)
+        ran = subprocess.run([sys.executable, "-c", program], capture_output=True, text=True, timeout=60)
+        self.assertEqual((ran.stdout, ran.stderr), ("MemoryError: out of memory\n", ""))
 
     def test_an_empty_text_has_a_root(self):
         tree = rnix.parse("")
@@ -285,6 +310,11 @@ class Reparsing(unittest.TestCase):
         for bad in [(-1, 0), (1, 0), (0, 4), (2, 3), (2, 2)]:
             self.assertRaises(rnix.EditError, tree.reparse, bad, "")
 
+    def test_a_node_of_another_tree_is_refused(self):
+        tree, other = rnix.parse("{ a = 1; }"), rnix.parse("{ b = [ 2 3 4 ]; }")
+        self.assertRaises(rnix.EditError, tree.reparse, next(other.root.find("NODE_LIST")), "Z")
+        self.assertRaises(rnix.EditError, tree.reparse, rnix.parse("{ a = 1; }").root, "Z")
+
 
 class Edits(unittest.TestCase):
     def test_a_value_is_replaced_and_all_else_stays(self):
@@ -302,6 +332,22 @@ class Edits(unittest.TestCase):
         edits.replace((1, 1), "1")
         edits.replace((1, 1), "2")
         self.assertEqual(edits.apply(), "x12äb")
+
+    def test_a_node_of_another_text_is_refused(self):
+        edits = rnix.Edits("{ a = 1; }")
+        self.assertRaises(rnix.EditError, edits.replace, next(rnix.parse("{ b = [ 2 ]; }").root.find("NODE_LIST")), "Z")
+        edits.replace(next(rnix.parse("{ a = 1; }").root.find("NODE_LITERAL")), "2")
+        self.assertEqual(edits.apply(), "{ a = 2; }")
+
+    def test_many_edits_take_no_time_for_each_pair(self):
+        count = 16_000
+        edits = rnix.Edits("a" * 2 * count)
+        started = time.monotonic()
+        for number in range(count):
+            at = 2 * (number * 7 % count)
+            edits.replace((at, at + 1), "b")
+        self.assertLess(time.monotonic() - started, 5)
+        self.assertEqual(edits.apply(), "ba" * count)
 
     def test_the_example_updates_pins(self):
         text = b'{\r\n  version = "1.0"; # pinned\r\n  src.hash = "old"; name = "a";\n}\n'

@@ -119,7 +119,7 @@ pub struct Reference {
 }
 
 extern "C" {
-    pub fn rnix_version() -> u32;
+    fn rnix_version() -> u32;
     pub fn rnix_tokens(text: *const u8, len: usize, tokens: *mut Token, room: usize) -> i64;
     fn rnix_parse_compact(
         text: *const u8,
@@ -220,14 +220,22 @@ pub fn count_of(result: i64) -> Result<usize, Refused> {
     }
 }
 
+// The library must be of this version, since other ones may have other structs.
+fn check_version() {
+    // SAFETY: the function takes no pointers.
+    let version = unsafe { rnix_version() };
+    assert_eq!(version, VERSION, "librnix.a is of another version than this crate");
+}
+
 // An array that a call fills.
 struct Room<T> {
     list: Vec<T>,
 }
 
 impl<T: Copy> Room<T> {
-    // An array of this capacity. If there is no memory for it, it has none, and the first call only counts.
+    // An array of this capacity. If there is no memory for it, it has none, and the first call only counts. Each call on a text begins with this.
     fn new(guess: usize) -> Room<T> {
+        check_version();
         let mut list: Vec<T> = Vec::new();
         let _ = list.try_reserve_exact(guess);
         Room { list }

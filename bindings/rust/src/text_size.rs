@@ -310,25 +310,23 @@ impl RangeBounds<TextSize> for TextRange {
     }
 }
 
+/// # Panics
+/// If the end overflows 32 bits.
 impl Add<TextSize> for TextRange {
     type Output = TextRange;
 
     fn add(self, offset: TextSize) -> TextRange {
-        TextRange {
-            start: self.start + offset,
-            end: self.end + offset,
-        }
+        self.checked_add(offset).expect("the end of a range fits in 32 bits")
     }
 }
 
+/// # Panics
+/// If the start would be negative.
 impl Sub<TextSize> for TextRange {
     type Output = TextRange;
 
     fn sub(self, offset: TextSize) -> TextRange {
-        TextRange {
-            start: self.start - offset,
-            end: self.end - offset,
-        }
+        self.checked_sub(offset).expect("the start of a range is not negative")
     }
 }
 
@@ -357,5 +355,32 @@ impl Index<TextRange> for String {
 impl IndexMut<TextRange> for String {
     fn index_mut(&mut self, range: TextRange) -> &mut str {
         &mut self[Range::<usize>::from(range)]
+    }
+}
+
+#[cfg(test)]
+mod tests {
+    use super::*;
+
+    fn range(start: u32, end: u32) -> TextRange {
+        TextRange::new(TextSize::new(start), TextSize::new(end))
+    }
+
+    #[test]
+    fn ranges_are_shifted() {
+        assert_eq!(range(3, 10) + TextSize::new(5), range(8, 15));
+        assert_eq!(range(8, 15) - TextSize::new(8), range(0, 7));
+    }
+
+    #[test]
+    #[should_panic = "fits in 32 bits"]
+    fn a_range_is_not_shifted_beyond_32_bits() {
+        let _ = range(0, 10) + TextSize::new(u32::MAX);
+    }
+
+    #[test]
+    #[should_panic = "is not negative"]
+    fn a_range_is_not_shifted_before_0() {
+        let _ = range(3, 10) - TextSize::new(5);
     }
 }

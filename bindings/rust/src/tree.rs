@@ -6,6 +6,15 @@ use crate::strings::Strings;
 use crate::{SyntaxKind, TextRange, TextSize};
 use std::sync::{Arc, OnceLock};
 
+// What a tree was made of.
+#[derive(Debug)]
+enum Origin {
+    // A whole text.
+    Text,
+    // The subtree of a node. If it has strings, their parts are those in the tree of the whole text, in which the node has this number.
+    Subtree(Option<(Arc<Tree>, u32)>),
+}
+
 /// A text and its elements in preorder. An element is identified by its index; the root is 0. Walks over ranges read 8 bytes of each element, and
 /// other walks 12.
 #[derive(Debug)]
@@ -13,8 +22,7 @@ pub(crate) struct Tree {
     text: Box<str>,
     ranges: Box<[Range]>,
     links: Box<[Link]>,
-    // The tree of which this one is a copy of the subtree of a node.
-    origin: Option<(Arc<Tree>, u32)>,
+    origin: Origin,
     // The parts of all strings, once they have been read.
     strings: OnceLock<Strings>,
 }
@@ -44,7 +52,7 @@ impl Tree {
             text: text.into(),
             ranges: parsed.ranges.into(),
             links: parsed.links.into(),
-            origin: None,
+            origin: Origin::Text,
             strings: OnceLock::new(),
         };
         (tree, errors)
@@ -52,9 +60,6 @@ impl Tree {
 
     /// Parses a text.
     pub(crate) fn read(text: &str) -> Result<(Tree, Vec<ParseError>), Refused> {
-        // SAFETY: the function takes no pointers.
-        let version = unsafe { ffi::rnix_version() };
-        assert_eq!(version, ffi::VERSION, "librnix.a is of another version than this crate");
         let parsed = ffi::parsed(text, (initial_capacity(text), ERRORS))?;
         Ok(Tree::new(joined(&[text])?, parsed))
     }
@@ -62,7 +67,7 @@ impl Tree {
     // What the library wrote for the text, which has so many errors.
     fn kept(&self, error_count: usize) -> Kept<'_> {
         assert!(
-            self.origin.is_none(),
+            matches!(self.origin, Origin::Text),
             "a subtree has other offsets and numbers than the library wrote"
         );
         Kept {
@@ -249,8 +254,9 @@ impl Tree {
     /// If memory runs out.
     pub(crate) fn string_parts(&self, number: u32) -> Vec<Option<&str>> {
         match &self.origin {
-            Some((whole, node)) => whole.string_parts(number + node),
-            None => {
+            Origin::Subtree(Some((whole, node))) => whole.string_parts(number + node),
+            Origin::Subtree(None) => Vec::new(),
+            Origin::Text => {
                 let read = || Strings::read(&self.text).unwrap_or_else(|refused| panic!("{refused}"));
                 self.strings.get_or_init(read).parts(number)
             }
@@ -283,7 +289,17 @@ impl Tree {
         (first..self.count()).find(is_it)
     }
 
-    /// Returns the subtree of a node as a tree of its own, with offsets from 0.
+    // The tree of the whole text, and the number that a node has there; none if it is not needed, since the node has no strings.
+    fn whole_with(self: &Arc<Tree>, node: u32) -> Option<(Arc<Tree>, u32)> {
+        let is_string = |number: u32| self.kind(number) == SyntaxKind::NODE_STRING;
+        match &self.origin {
+            _ if !(node..self.end(node)).any(is_string) => None,
+            Origin::Text => Some((Arc::clone(self), node)),
+            Origin::Subtree(whole) => whole.as_ref().map(|(whole, base)| (Arc::clone(whole), base + node)),
+        }
+    }
+
+    /// Returns the subtree of a node as a tree of its own, with offsets from 0. It keeps the tree of the whole text only if it has strings.
     pub(crate) fn subtree(self: &Arc<Tree>, node: u32) -> Tree {
         let base = self.ranges[node as usize].start;
         let numbers = node as usize..self.end(node) as usize;
@@ -300,7 +316,7 @@ impl Tree {
             text: self.text(node).into(),
             ranges: ranges.collect(),
             links,
-            origin: Some((Arc::clone(self), node)),
+            origin: Origin::Subtree(self.whole_with(node)),
             strings: OnceLock::new(),
         }
     }
@@ -309,6 +325,20 @@ impl Tree {
 #[cfg(test)]
 mod tests {
     use super::*;
+
+    #[test]
+    fn a_copy_keeps_the_whole_tree_for_its_strings_alone() {
+        let (tree, _) = Tree::read("[ (a) \"b\" ]").unwrap();
+        let tree = Arc::new(tree);
+        let parens = (0..tree.count()).find(|number| tree.kind(*number) == SyntaxKind::NODE_PAREN);
+        let copy = Arc::new(tree.subtree(parens.unwrap()));
+        assert_eq!((Arc::strong_count(&tree), copy.text(0)), (1, "(a)"));
+        let mut list = Arc::new(tree.subtree(1));
+        for _ in 0..200_000 {
+            list = Arc::new(list.subtree(0));
+        }
+        assert_eq!((Arc::strong_count(&tree), list.text(0)), (2, "[ (a) \"b\" ]"));
+    }
 
     #[test]
     fn a_node_is_found_from_each_element() {
