@@ -22,6 +22,9 @@ pub struct Document {
     pub sent: RefCell<Option<Sent>>,
     // Whether the text has changed since its diagnostics were sent.
     is_new: bool,
+    // Whether a change could not be applied, so that the client has another text; and whether the client knows that.
+    is_lost: bool,
+    is_told: bool,
     // The parse of the last text that was parsed, and how it has changed since; none if the whole text was replaced.
     earlier: RefCell<Option<(Parse<Root>, Change)>>,
     analysis: OnceCell<Result<Analysis, Failure>>,
@@ -66,6 +69,24 @@ impl Document {
         Ok(())
     }
 
+    // Applies changes in order, from the last one that is a whole text on.
+    fn apply_all(&mut self, changes: &[Value], encoding: Encoding) -> Result<(), Failure> {
+        let is_whole = |change: &Value| matches!(change.get("range"), None | Some(Value::Null));
+        let whole = changes.iter().rposition(is_whole);
+        if self.is_lost && whole.is_none() {
+            return Err(lost(&self.uri));
+        }
+        changes[whole.unwrap_or(0)..]
+            .iter()
+            .try_for_each(|change| self.apply(change, encoding))
+    }
+
+    fn lose(&mut self) {
+        self.is_told = self.is_lost && self.is_told;
+        self.is_lost = true;
+        self.is_new = false;
+    }
+
     // Forgets what is known of the text.
     fn forget(&mut self) -> Option<Analysis> {
         self.analysis.take()?.ok()
@@ -86,17 +107,23 @@ impl Documents {
     /// Opens a document.
     ///
     /// # Errors
-    /// The parameters have no name or no text.
+    /// The parameters have no name or no text. The text of a document with the name that is open already is not known then.
     pub fn open(&mut self, params: &Value, encoding: Encoding) -> Result<(), Failure> {
         let uri = uri_of(params)?.to_owned();
-        let text = params.at(&["textDocument", "text"]).and_then(Value::as_str);
-        let text = text.ok_or_else(|| Failure::params("textDocument.text is missing"))?;
+        let Some(text) = params.at(&["textDocument", "text"]).and_then(Value::as_str) else {
+            if let Some(document) = self.open.get_mut(&uri) {
+                document.lose();
+            }
+            return Err(Failure::params("textDocument.text is missing"));
+        };
         let document = Document {
             uri: uri.clone(),
             version: params.at(&["textDocument", "version"]).cloned(),
             text: Text::new(text.to_owned(), encoding),
             sent: RefCell::default(),
             is_new: true,
+            is_lost: false,
+            is_told: false,
             earlier: RefCell::default(),
             analysis: OnceCell::new(),
         };
@@ -107,14 +134,42 @@ impl Documents {
     /// Applies changes to a document, in order.
     ///
     /// # Errors
-    /// The document is not open, or a change is none; it and those after it are then left out.
+    /// The document is not open, or a change is none. The client then has another text, so the document is lost until a whole text comes.
     pub fn change(&mut self, params: &Value, encoding: Encoding) -> Result<(), Failure> {
-        let document = self.open.get_mut(uri_of(params)?).ok_or_else(not_open)?;
+        let Ok(uri) = uri_of(params) else {
+            self.lose(None);
+            return uri_of(params).map(|_| ());
+        };
+        let document = self.open.get_mut(uri).ok_or_else(not_open)?;
         let changes = params.get("contentChanges").and_then(Value::as_array);
-        let changes = changes.ok_or_else(|| Failure::params("contentChanges is missing"))?;
-        document.version = params.at(&["textDocument", "version"]).cloned();
-        document.is_new = true;
-        changes.iter().try_for_each(|change| document.apply(change, encoding))
+        let changes = changes.ok_or_else(|| Failure::params("contentChanges is missing"));
+        let outcome = changes.and_then(|changes| document.apply_all(changes, encoding));
+        match outcome {
+            Ok(()) => {
+                document.version = params.at(&["textDocument", "version"]).cloned();
+                (document.is_new, document.is_lost) = (true, false);
+            }
+            Err(_) => document.lose(),
+        }
+        outcome
+    }
+
+    /// Marks a document as lost, whose text may have changed in a way that is not known: that of a name, if it is open, or all.
+    pub fn lose(&mut self, uri: Option<&str>) {
+        match uri.and_then(|uri| self.open.get_mut(uri)) {
+            Some(document) => document.lose(),
+            None => self.open.values_mut().for_each(Document::lose),
+        }
+    }
+
+    /// Returns the name of a lost document, once for each time that it is lost.
+    pub fn next_lost(&mut self) -> Option<String> {
+        let document = self
+            .open
+            .values_mut()
+            .find(|document| document.is_lost && !document.is_told)?;
+        document.is_told = true;
+        Some(document.uri.clone())
     }
 
     /// Closes a document, and returns its name.
@@ -129,9 +184,13 @@ impl Documents {
     /// Returns the document that parameters name.
     ///
     /// # Errors
-    /// It is not open.
+    /// It is not open, or lost.
     pub fn get(&self, params: &Value) -> Result<&Document, Failure> {
-        self.open.get(uri_of(params)?).ok_or_else(not_open)
+        let document = self.open.get(uri_of(params)?).ok_or_else(not_open)?;
+        if document.is_lost {
+            return Err(lost(&document.uri));
+        }
+        Ok(document)
     }
 
     /// Returns a document whose diagnostics are to be sent, once for each change.
@@ -144,6 +203,13 @@ impl Documents {
 
 fn not_open() -> Failure {
     Failure::params("the document is not open")
+}
+
+/// Why requests about a document are refused.
+pub fn lost(uri: &str) -> Failure {
+    Failure::refused(format!(
+        "a change of {uri} could not be read, so its text is not known until it is sent whole: close it and open it again"
+    ))
 }
 
 #[cfg(test)]
@@ -214,6 +280,37 @@ mod tests {
             let document = documents.get(&changes).unwrap();
             assert_eq!(document.text.content(), String::from_utf16(&units).unwrap());
         }
+    }
+
+    #[test]
+    fn after_a_change_that_is_none_only_a_whole_text_counts() {
+        let range = |from: i64| {
+            let at = |column: i64| object([("line", 0_usize.into()), ("character", column.into())]);
+            object([
+                ("range", object([("start", at(from)), ("end", at(0))])),
+                ("text", "x".into()),
+            ])
+        };
+        let whole = |text: &str| object([("text", text.into())]);
+        let mut documents = Documents::default();
+        documents
+            .open(&params("a", Value::Null, "aaa"), Encoding::Utf16)
+            .unwrap();
+        let mut change = |changes: Vec<Value>| {
+            let params = params("contentChanges", array(changes), "");
+            let is_ok = documents.change(&params, Encoding::Utf16).is_ok();
+            let text = documents
+                .get(&params)
+                .map(|document| document.text.content().to_owned());
+            (is_ok, text.ok(), documents.next_lost())
+        };
+        let (lost, known) = (Some("a".to_owned()), |text: &str| (true, Some(text.to_owned()), None));
+        assert_eq!(change(vec![range(0)]), known("xaaa"));
+        assert_eq!(change(vec![range(0), range(-1), range(0)]), (false, None, lost.clone()));
+        assert_eq!(change(vec![range(0)]), (false, None, None));
+        assert_eq!(change(vec![range(-1), whole("b"), range(0)]), known("xb"));
+        assert_eq!(change(vec![Value::Null, range(0)]), (false, None, lost));
+        assert_eq!(change(vec![whole("c")]), known("c"));
     }
 
     // The tree and the errors of a document, as text.

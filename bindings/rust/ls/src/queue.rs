@@ -6,6 +6,7 @@
 use crate::json::Value;
 use crate::protocol::{uri_of, Code, Failure};
 use crate::transport::{self, Frame};
+use std::borrow::Cow;
 use std::collections::VecDeque;
 use std::io::{BufReader, Read};
 use std::panic::{catch_unwind, AssertUnwindSafe};
@@ -21,6 +22,8 @@ const MOST_WAITING: usize = 1000;
 pub enum Incoming {
     /// A message.
     Message(Value),
+    /// A message with bytes that are not UTF-8, which are replaced.
+    Damaged(Value),
     /// A request that the client has cancelled.
     Cancelled(Value),
     /// A request about a document that the client has changed since.
@@ -52,11 +55,10 @@ pub struct Queue {
 
 // A body as a message.
 fn message(body: &[u8]) -> Incoming {
-    let Ok(text) = std::str::from_utf8(body) else {
-        return Incoming::Bad(Failure::new(Code::ParseError, "the message is not UTF-8"));
-    };
-    match Value::read(text) {
-        Ok(value) => Incoming::Message(value),
+    let text = String::from_utf8_lossy(body);
+    match Value::read(&text) {
+        Ok(value) if matches!(text, Cow::Borrowed(_)) => Incoming::Message(value),
+        Ok(value) => Incoming::Damaged(value),
         Err(error) => {
             let reason = format!("the message is not JSON: {} at byte {}", error.message, error.at);
             Incoming::Bad(Failure::new(Code::ParseError, reason))
@@ -217,6 +219,7 @@ mod tests {
                 Incoming::Message(_) => 'm',
                 Incoming::Stale(_) => 's',
                 Incoming::Cancelled(_) => 'c',
+                Incoming::Damaged(_) => 'd',
                 Incoming::Bad(_) | Incoming::End => 'b',
             });
         }

@@ -1,12 +1,12 @@
 //! The main loop of the server: it reads messages one by one, and responds to requests in their order.
 
 use crate::client::Client;
-use crate::documents::Documents;
+use crate::documents::{lost, Documents};
 use crate::features::{
     actions, completion, diagnostics, folding, formatting, hover, navigation, rename, selection, symbols, tokens,
 };
 use crate::json::{object, Value};
-use crate::protocol::{notification, response, Code, Failure, Outcome};
+use crate::protocol::{notification, response, uri_of, Code, Failure, Outcome};
 use crate::queue::{Incoming, Queue};
 use crate::request::Request;
 use crate::transport;
@@ -124,7 +124,50 @@ impl<W: Write> Server<W> {
             "textDocument/didClose" => return self.closed(params),
             _ => Ok(()),
         };
-        outcome.or_else(|failure| self.log(&failure))
+        match outcome {
+            Ok(()) => Ok(()),
+            Err(failure) => {
+                self.log(&failure)?;
+                self.report_lost()
+            }
+        }
+    }
+
+    // Says of each document that has been lost why nothing is known of it, and removes its diagnostics.
+    fn report_lost(&mut self) -> io::Result<()> {
+        while let Some(uri) = self.documents.next_lost() {
+            let params = object([("type", 2_usize.into()), ("message", lost(&uri).message.into())]);
+            self.send(&notification("window/showMessage", params))?;
+            self.send(&notification(
+                "textDocument/publishDiagnostics",
+                diagnostics::none_for(&uri),
+            ))?;
+        }
+        Ok(())
+    }
+
+    // A message that is not UTF-8 is refused. If it is no request, it may have been a change of the document that it names, or of any.
+    fn refuse_damaged(&mut self, message: &Value) -> io::Result<Next> {
+        let id = message.get("id");
+        if id.is_none() {
+            self.documents
+                .lose(message.get("params").and_then(|params| uri_of(params).ok()));
+        }
+        let next = self.refuse(
+            id.cloned().unwrap_or(Value::Null),
+            Code::ParseError,
+            "the message is not UTF-8",
+        )?;
+        self.report_lost()?;
+        Ok(next)
+    }
+
+    // What is no message may have been a change of any document.
+    fn refuse_bad(&mut self, failure: &Failure) -> io::Result<Next> {
+        self.documents.lose(None);
+        let next = self.refuse(Value::Null, failure.code, &failure.message)?;
+        self.report_lost()?;
+        Ok(next)
     }
 
     fn closed(&mut self, params: &Value) -> io::Result<()> {
@@ -179,7 +222,8 @@ impl<W: Write> Server<W> {
             Incoming::Message(message) => self.message(&message),
             Incoming::Cancelled(id) => self.refuse(id, Code::RequestCancelled, "the request was cancelled"),
             Incoming::Stale(id) => self.refuse(id, Code::ContentModified, "the document has changed since"),
-            Incoming::Bad(failure) => self.refuse(Value::Null, failure.code, &failure.message),
+            Incoming::Damaged(message) => self.refuse_damaged(&message),
+            Incoming::Bad(failure) => self.refuse_bad(&failure),
             Incoming::End => Ok(Next::End(u8::from(self.stage != Stage::ShutDown))),
         }
     }

@@ -10,6 +10,9 @@ import subprocess
 PROGRAM = os.environ.get("RNIX_LS", "rnix-ls")
 URI = "file:///t.nix"
 
+# How long an answer may take; valgrind makes the server some fifty times slower.
+SECONDS = 120
+
 # What an editor says that it can do.
 CAPABILITIES = {
     "workspace": {"workspaceEdit": {"documentChanges": True}},
@@ -50,10 +53,17 @@ class Client:
     def __exit__(self, *_):
         self.process.stdin.close()
         self.process.stdout.close()
-        self.process.wait(60)
+        try:
+            self.process.wait(60)
+        except subprocess.TimeoutExpired:
+            self.process.kill()
+            raise
 
     def take(self):
-        """Waits for bytes from the server, and returns whether there were any."""
+        """Waits for bytes from the server, and returns whether there were any. A server that says nothing for long is ended."""
+        if not select.select([self.process.stdout], [], [], SECONDS)[0]:
+            self.process.kill()
+            raise TimeoutError(f"rnix-ls has not answered for {SECONDS} seconds")
         part = os.read(self.process.stdout.fileno(), 65536)
         self.arrived += part
         return bool(part)
@@ -63,7 +73,10 @@ class Client:
         rest = memoryview(raw)
         while rest:
             outputs = [] if self.process.stdout.closed else [self.process.stdout]
-            readable, writable, _ = select.select(outputs, [self.process.stdin], [])
+            readable, writable, _ = select.select(outputs, [self.process.stdin], [], SECONDS)
+            if not readable and not writable:
+                self.process.kill()
+                raise TimeoutError(f"rnix-ls has not read for {SECONDS} seconds")
             if writable:
                 rest = rest[os.write(self.process.stdin.fileno(), rest[:select.PIPE_BUF]):]
             elif readable and not self.take():

@@ -6,7 +6,7 @@ import re
 import time
 import unittest
 
-from client import URI, Client, frame, is_bounded, place
+from client import URI, Client, change_of, frame, is_bounded, place
 
 METHODS = [
     "codeAction", "completion", "definition", "documentHighlight", "documentSymbol", "foldingRange", "formatting", "hover", "prepareRename",
@@ -87,6 +87,49 @@ class Hostile(unittest.TestCase):
             self.client.write(frame(body))
             self.assertEqual(self.code(), -32700)
 
+    def damage(self, kind, start, new):
+        """Sends a change of the document that cannot be read, and takes what the server answers to it."""
+        self.client.version += 1
+        good, bad = change_of((start, start, new)), change_of(((0, -1), (0, 0), new))
+        changes = [good, bad, good] if kind == "range" else [good]
+        params = {"textDocument": {"uri": URI, "version": self.client.version}, "contentChanges": changes}
+        body = json.dumps({"jsonrpc": "2.0", "method": "textDocument/didChange", "params": params}).encode()
+        if kind == "byte":
+            body = body.replace(json.dumps(new).encode(), b'"\xe9"')
+        whole = {"json": frame(body[:-1]), "header": b"Content-Length: x\r\n\r\n" + body}
+        self.client.write(whole.get(kind, frame(body)))
+        if kind != "range":
+            self.assertEqual(self.code(), -32700)
+
+    def test_no_edit_is_computed_on_another_text(self):
+        numbers = random.Random(4)
+        line = "  a = [ 1 2 ];   b={ }; # c\n"
+        text, is_lost, count = "{\n" + 20 * line + "}\n", False, 0
+        self.client.open(text)
+        for turn in range(600):
+            start = (numbers.randrange(20), numbers.randrange(12))
+            new = numbers.choice([" ", "\n", "# d\n", "", "  "])
+            if turn % 10 == 7:
+                self.damage(numbers.choice(["byte", "json", "header", "range"]), start, "xyz")
+                is_lost = True
+            elif numbers.random() < 0.1:
+                text, is_lost = "{\n" + numbers.randrange(1, 20) * line + "}\n", False
+                self.client.change(text)
+            else:
+                self.client.change((start, start, new))
+                text = text if is_lost else model(text, start, start, new)
+            found = self.client.at("formatting", options={"tabSize": 2, "insertSpaces": True})
+            if is_lost:
+                self.assertEqual(found["code"], -32803)
+                self.assertIn(URI, found["message"])
+                continue
+            count += 1
+            self.client.open(text, "file:///whole.nix")
+            self.assertEqual(found, self.client.at("formatting", uri="file:///whole.nix", options={"tabSize": 2, "insertSpaces": True}))
+        self.assertGreater(count, 200)
+        said = [it["params"]["message"] for it in self.client.notifications if it["method"] == "window/showMessage"]
+        self.assertTrue(said and all("file:///" in it for it in said))
+
     def test_what_is_no_request_is_invalid(self):
         for message in (b"[]", b"1", b"null", b"{}", b'{"id":1}', b'{"method":1,"id":2}', b'[{"id":1,"method":"shutdown"}]'):
             self.client.write(frame(message))
@@ -121,6 +164,9 @@ class Hostile(unittest.TestCase):
                 self.assertEqual(self.client.ask(f"textDocument/{method}", params)["code"], -32602, (method, params))
             for method in ("didOpen", "didChange", "didClose"):
                 self.client.tell(f"textDocument/{method}", params)
+        # A change without a name may have been one of this document.
+        self.assertEqual(self.client.at("hover", (0, 0))["code"], -32803)
+        self.client.open("a: a")
         for position in (None, 1, {}, {"line": 0}, {"line": -1, "character": 0}, {"line": 0.5, "character": 0}, {"line": "0", "character": 0}):
             self.assertEqual(self.client.ask("textDocument/hover", {**text, "position": position})["code"], -32602)
         self.assertEqual(self.client.ask("textDocument/rename", {**text, "position": place((0, 0))})["code"], -32602)
@@ -222,6 +268,27 @@ class Hostile(unittest.TestCase):
             return sizes
 
         self.assertTrue(is_bounded(sizes_of_round))
+
+    def test_names_at_the_end_of_a_large_scope_are_found_in_linear_time(self):
+        count = 20_000
+        self.client.open("rec {\n" + "".join(f"  n{it} = 1;\n" for it in range(count)) + "}")
+        self.client.at("hover", (0, 0))
+        before = self.client.processor_time()
+        self.client.at("completion", (count + 1, 1))
+        self.assertLess(self.client.processor_time() - before, 1)
+
+    def test_selection_ranges_of_many_positions_are_bounded(self):
+        self.client.open("(" * 300)
+        count = 0
+        for one in self.client.at("selectionRange", positions=[place((0, it % 300)) for it in range(10_000)]):
+            while one:
+                one, count = one.get("parent"), count + 1
+        self.assertLessEqual(count, 10_000)
+
+    def test_diagnostics_are_bounded(self):
+        self.client.open("let " + "".join(f"n{it} = 1; " for it in range(3_000)) + "in 1")
+        found = self.client.diagnostics()
+        self.assertEqual((len(found), found[-1]["message"]), (1001, "2000 more errors and unused names are not shown"))
 
     def test_each_request_has_one_answer_even_if_cancelled(self):
         self.client.open(packages(100_000))

@@ -17,11 +17,11 @@ use rnix::{Edits, Root, SyntaxKind, SyntaxNode, TextRange, TextSize};
 /// An answer has at most this many quick fixes for errors, and as many for unused names, since each of them is tried out.
 const MOST: usize = 20;
 
-/// For each error for which a fix is tried, the text is parsed a few times. The texts of these errors have at most this many bytes in all, but for one.
+/// For each error or name for which a fix is tried, the text is parsed a few times. These texts have at most this many bytes in all, but for one.
 const MOST_BYTES: usize = 2_000_000;
 
-// For how many errors of a text an answer tries fixes.
-fn most_corrections(text: &str) -> usize {
+// For how many errors of a text, and for how many unused names, an answer tries fixes.
+fn most_tries(text: &str) -> usize {
     (MOST_BYTES / text.len().max(1)).clamp(1, MOST)
 }
 
@@ -155,7 +155,7 @@ fn corrections(request: &Request, range: TextRange) -> Vec<Value> {
         let fix = correction(analysis, text, number)?;
         Some(shown(request, Some(error(request.document, found)), &fix))
     };
-    in_range.take(most_corrections(text)).filter_map(action).collect()
+    in_range.take(most_tries(text)).filter_map(action).collect()
 }
 
 // The quick fixes for the unused names in a range.
@@ -170,7 +170,7 @@ fn removals(request: &Request, range: TextRange) -> Vec<Value> {
         Some(shown(request, hint(request.document, analysis, number), &fix))
     };
     let in_range = unused(analysis).into_iter().filter(is_in_range);
-    in_range.take(MOST).filter_map(action).collect()
+    in_range.take(most_tries(text)).filter_map(action).collect()
 }
 
 /// Returns the response to `textDocument/codeAction`: the quick fixes for the errors and the unused names in the range.
@@ -203,8 +203,8 @@ mod tests {
     }
 
     #[test]
-    fn fixes_are_tried_for_fewer_errors_in_long_texts() {
-        let counts = [0, 100_000, 1_000_000, 10_000_000].map(|len| most_corrections(&"a".repeat(len)));
+    fn fewer_fixes_are_tried_in_long_texts() {
+        let counts = [0, 100_000, 1_000_000, 10_000_000].map(|len| most_tries(&"a".repeat(len)));
         assert_eq!(counts, [20, 20, 2, 1]);
     }
 

@@ -7,8 +7,8 @@ fn lines_of(comment: &str) -> Vec<String> {
     if let Some(line) = comment.strip_prefix('#') {
         return vec![line.strip_prefix(' ').unwrap_or(line).trim_end().to_owned()];
     }
-    let inner = comment.trim_start_matches('/').trim_start_matches('*');
-    let inner = inner.strip_suffix("*/").unwrap_or(inner);
+    let inner = comment.strip_prefix("/*").unwrap_or(comment);
+    let inner = inner.strip_suffix("*/").unwrap_or(inner).trim_start_matches('*');
     let lines = inner.lines().map(|line| {
         let line = line.trim();
         line.strip_prefix("* ")
@@ -86,6 +86,8 @@ mod tests {
         assert_eq!(comment("{\n  # one\n\n  a = 1;\n}"), None);
         assert_eq!(comment("{\n  b = 1; # of b\n  a = 1;\n}"), None);
         assert_eq!(comment("{\n  #\n  a = 1;\n}"), None);
+        assert_eq!(comment("{\n  /**/\n  a = 1;\n}"), None);
+        assert_eq!(comment("{\n  /***/\n  a = 1;\n}"), None);
         assert_eq!(comment("{ a = 1; }"), None);
     }
 }

@@ -165,8 +165,18 @@ fn is_plain(name: &str) -> bool {
 
 // The bindings in sight, those of the innermost scope first.
 fn bindings_in_sight<'a>(analysis: &'a Analysis, place: &Place) -> Vec<&'a Binding> {
+    // The bindings of a scope follow one another, so each scope is looked at once.
+    let mut last: Option<(&SyntaxNode, bool)> = None;
+    let mut is_seen = |scope: &'a SyntaxNode| match last {
+        Some((other, is_seen)) if other == scope => is_seen,
+        _ => {
+            let is_seen = is_in_sight(scope, place);
+            last = Some((scope, is_seen));
+            is_seen
+        }
+    };
     let bindings = analysis.names().bindings.iter();
-    let mut in_sight: Vec<&Binding> = bindings.filter(|binding| is_in_sight(&binding.scope, place)).collect();
+    let mut in_sight: Vec<&Binding> = bindings.filter(|binding| is_seen(&binding.scope)).collect();
     in_sight.sort_by_key(|binding| std::cmp::Reverse(binding.scope.text_range().start()));
     in_sight
 }

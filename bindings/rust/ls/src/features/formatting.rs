@@ -44,7 +44,10 @@ fn pieces(text: &str) -> Result<Vec<Piece>, Refused> {
 }
 
 fn piece(space: usize, start: usize, end: usize) -> Piece {
-    Piece { space: TextRange::new(size(space), size(start)), place: TextRange::new(size(start), size(end)) }
+    Piece {
+        space: TextRange::new(size(space), size(start)),
+        place: TextRange::new(size(start), size(end)),
+    }
 }
 
 // The edits that replace the white space and the strings of one text by those of another one, if their other tokens are the same.
@@ -104,7 +107,14 @@ mod tests {
 
     #[test]
     fn edits_make_the_formatted_text() {
-        for text in ["", "{a=1;}", "[ 1\n\n\n 2 ]  # end", "let  a=1 ;in\ta", "x:''\n  a\n''", "{a=''\nb ${ c }\nd\n'' ;}"] {
+        for text in [
+            "",
+            "{a=1;}",
+            "[ 1\n\n\n 2 ]  # end",
+            "let  a=1 ;in\ta",
+            "x:''\n  a\n''",
+            "{a=''\nb ${ c }\nd\n'' ;}",
+        ] {
             let mut changed = Edits::new(text);
             for (place, new) in edits(text).unwrap() {
                 changed.replace(place, new).unwrap();

@@ -136,7 +136,9 @@ fn rename_to(analysis: &Analysis, name: Option<&Name>, new: &str) -> Result<Vec<
         return Err(Failure::refused(format!("`{new}` is not a name")));
     }
     if is_hidden(new) {
-        return Err(Failure::refused(format!("operators, paths in `<>` or the old `let` refer to `{new}`")));
+        return Err(Failure::refused(format!(
+            "operators, paths in `<>` or the old `let` refer to `{new}`"
+        )));
     }
     match edits(analysis, number, new) {
         Some(edits) if keeps_meaning(analysis, &edits) => Ok(edits),
@@ -241,7 +243,15 @@ mod tests {
     #[test]
     fn names_of_operators_are_refused() {
         let refused = |text, new| renamed_text(text, new).unwrap_err();
-        for new in ["__sub", "__mul", "__div", "__lessThan", "__findFile", "__nixPath", "__overrides"] {
+        for new in [
+            "__sub",
+            "__mul",
+            "__div",
+            "__lessThan",
+            "__findFile",
+            "__nixPath",
+            "__overrides",
+        ] {
             assert!(
                 refused("let |f = a: b: 42; in f 5 3 - 1", new).contains("operators"),
                 "{new}"
