@@ -1,2 +1,5 @@
 pub mod PrefixTexts
 pub mod FewSteps
+pub mod ComputedReadings
+pub mod RefutedLaws
+pub mod DeepExamples
