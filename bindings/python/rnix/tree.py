@@ -107,8 +107,8 @@ class Tree:
     def reparse(self, what: Element | tuple[int, int], new: str) -> Tree:
         """Returns the tree of the text in which `new` replaces a node, a token or a byte range: that of `parse` for the new text.
 
-        If this text has no errors, most of its tree is copied, so that it takes a fraction of the time. This tree stays as it is. An element of another
-        tree raises EditError.
+        If this text has no errors and the edit is between brackets, often only these are parsed, which takes a fraction of the time. This tree stays as
+        it is. An element of another tree raises EditError.
         """
         if isinstance(what, Element) and what.tree is not self:
             raise ranges.EditError(f"{what!r} is of another tree")

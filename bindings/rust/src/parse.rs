@@ -49,7 +49,7 @@ impl<T> Parse<T> {
 
 impl Parse<Root> {
     /// Parses the text after an edit that replaces the bytes in `range`. The result is that of [`Root::parse`] for the new text. If this text has no
-    /// errors, most of its tree is copied, so that it takes a fraction of the time. This parse stays as it is.
+    /// errors and the edit is between brackets, often only these are parsed, which takes a fraction of the time. This parse stays as it is.
     ///
     /// ```
     /// let parse = rnix::Root::parse("{ a = [ 1 2 ]; }");

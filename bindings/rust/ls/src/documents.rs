@@ -134,10 +134,10 @@ impl Documents {
     /// Applies changes to a document, in order.
     ///
     /// # Errors
-    /// The document is not open, or a change is none. The client then has another text, so the document is lost until a whole text comes.
+    /// The document is not open, or a change is malformed. The client then has another text, so the document is lost until a whole text comes.
     pub fn change(&mut self, params: &Value, encoding: Encoding) -> Result<(), Failure> {
         let Ok(uri) = uri_of(params) else {
-            self.lose(None);
+            self.lose_all();
             return uri_of(params).map(|_| ());
         };
         let document = self.open.get_mut(uri).ok_or_else(not_open)?;
@@ -154,12 +154,14 @@ impl Documents {
         outcome
     }
 
-    /// Marks a document as lost, whose text may have changed in a way that is not known: that of a name, if it is open, or all.
-    pub fn lose(&mut self, uri: Option<&str>) {
-        match uri.and_then(|uri| self.open.get_mut(uri)) {
-            Some(document) => document.lose(),
-            None => self.open.values_mut().for_each(Document::lose),
-        }
+    /// Marks a document as lost, whose text may have changed in a way that is not known, if it is open.
+    pub fn lose(&mut self, uri: &str) {
+        self.open.get_mut(uri).into_iter().for_each(Document::lose);
+    }
+
+    /// Marks all documents as lost.
+    pub fn lose_all(&mut self) {
+        self.open.values_mut().for_each(Document::lose);
     }
 
     /// Returns the name of a lost document, once for each time that it is lost.
@@ -208,7 +210,7 @@ fn not_open() -> Failure {
 /// Why requests about a document are refused.
 pub fn lost(uri: &str) -> Failure {
     Failure::refused(format!(
-        "a change of {uri} could not be read, so its text is not known until it is sent whole: close it and open it again"
+        "a message that may have changed {uri} could not be read, so the server no longer knows its text: close it and open it again"
     ))
 }
 

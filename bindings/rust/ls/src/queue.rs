@@ -99,24 +99,27 @@ fn is_request(message: &Incoming, id: &Value) -> bool {
     }
 }
 
-// The URI of the document that a message changes.
+// The URI of the document that a message changes, or may have changed if it could be read.
 fn changed(message: &Incoming) -> Option<&str> {
     match message {
-        Incoming::Message(value) if value.get("method")?.as_str() == Some("textDocument/didChange") => {
+        Incoming::Message(value) | Incoming::Damaged(value)
+            if value.get("method")?.as_str() == Some("textDocument/didChange") =>
+        {
             uri_of(value.get("params")?).ok()
         }
         _ => None,
     }
 }
 
-// The id of a message that asks about a document, and whose answer is of no use after a change of it. Clients use names that complete a word while
-// more of it is typed.
-fn passing(message: &Incoming, uri: &str) -> Option<Value> {
+// The id of a message that asks about a document, or about any, and whose answer is of no use after a change of it. Clients use names that complete a
+// word while more of it is typed.
+fn passing(message: &Incoming, uri: Option<&str>) -> Option<Value> {
     let Incoming::Message(value) = message else {
         return None;
     };
     let method = value.get("method")?.as_str()?.strip_prefix("textDocument/")?;
-    let is_passing = method != "completion" && uri_of(value.get("params")?) == Ok(uri);
+    let own = uri_of(value.get("params")?).ok()?;
+    let is_passing = method != "completion" && uri.map_or(true, |uri| uri == own);
     value.get("id").filter(|_| is_passing).cloned()
 }
 
@@ -133,17 +136,19 @@ impl Waiting {
             }
             return;
         }
-        if let Some(uri) = changed(&incoming) {
-            self.pass(uri);
+        match (&incoming, changed(&incoming)) {
+            (_, Some(uri)) => self.pass(Some(uri)),
+            (Incoming::Bad(_), None) => self.pass(None),
+            _ => {}
         }
         self.bytes += bytes;
         self.messages.push_back((incoming, bytes));
     }
 
-    // Marks the requests about a document that changes now. Those before its last change have been marked.
-    fn pass(&mut self, uri: &str) {
+    // Marks the requests about a document that changes now, or about any. Those before its last change have been marked.
+    fn pass(&mut self, uri: Option<&str>) {
         for (message, _) in self.messages.iter_mut().rev() {
-            if changed(message) == Some(uri) {
+            if uri.is_some() && changed(message) == uri {
                 return;
             }
             if let Some(id) = passing(message, uri) {

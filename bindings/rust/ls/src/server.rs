@@ -126,11 +126,16 @@ impl<W: Write> Server<W> {
         };
         match outcome {
             Ok(()) => Ok(()),
-            Err(failure) => {
-                self.log(&failure)?;
-                self.report_lost()
-            }
+            Err(failure) => self.report(&failure),
         }
+    }
+
+    // Logs what went wrong with a notification, but not what follows from a loss that has been reported, such as each further change.
+    fn report(&mut self, failure: &Failure) -> io::Result<()> {
+        if failure.code != Code::RequestFailed {
+            self.log(failure)?;
+        }
+        self.report_lost()
     }
 
     // Says of each document that has been lost why nothing is known of it, and removes its diagnostics.
@@ -146,25 +151,32 @@ impl<W: Write> Server<W> {
         Ok(())
     }
 
-    // A message that is not UTF-8 is refused. If it is no request, it may have been a change of the document that it names, or of any.
+    // A message that is not UTF-8 is refused.
     fn refuse_damaged(&mut self, message: &Value) -> io::Result<Next> {
-        let id = message.get("id");
-        if id.is_none() {
-            self.documents
-                .lose(message.get("params").and_then(|params| uri_of(params).ok()));
-        }
-        let next = self.refuse(
-            id.cloned().unwrap_or(Value::Null),
-            Code::ParseError,
-            "the message is not UTF-8",
-        )?;
+        self.lose_by(message);
+        let id = message.get("id").cloned().unwrap_or(Value::Null);
+        let next = self.refuse(id, Code::ParseError, "the message is not UTF-8")?;
         self.report_lost()?;
         Ok(next)
     }
 
+    // Marks what a message may have changed that is not carried out: a document that it names, or any if the name or the method cannot be read.
+    fn lose_by(&mut self, message: &Value) {
+        let readable = |text: &&str| !text.contains(char::REPLACEMENT_CHARACTER);
+        let uri = message
+            .get("params")
+            .and_then(|params| uri_of(params).ok())
+            .filter(readable);
+        match (message.get("method").and_then(Value::as_str).filter(readable), uri) {
+            (Some("textDocument/didChange" | "textDocument/didOpen"), Some(uri)) => self.documents.lose(uri),
+            (Some("textDocument/didChange" | "textDocument/didOpen") | None, _) => self.documents.lose_all(),
+            _ => {}
+        }
+    }
+
     // What is no message may have been a change of any document.
     fn refuse_bad(&mut self, failure: &Failure) -> io::Result<Next> {
-        self.documents.lose(None);
+        self.documents.lose_all();
         let next = self.refuse(Value::Null, failure.code, &failure.message)?;
         self.report_lost()?;
         Ok(next)
@@ -198,6 +210,9 @@ impl<W: Write> Server<W> {
             (Some(method), Some(id)) => {
                 let outcome = self.request(method, params);
                 self.send(&response(id.clone(), outcome))?;
+                // A notification that is sent as a request is not carried out.
+                self.lose_by(message);
+                self.report_lost()?;
             }
             (Some("exit"), None) => return Ok(Next::End(u8::from(self.stage != Stage::ShutDown))),
             (Some(method), None) => self.notified(method, params)?,
@@ -206,6 +221,8 @@ impl<W: Write> Server<W> {
             _ => {
                 let failure = Failure::new(Code::InvalidRequest, "the message is no request");
                 self.send(&response(Value::Null, Err(failure)))?;
+                self.lose_by(message);
+                self.report_lost()?;
             }
         }
         Ok(Next::Continue)

@@ -130,6 +130,52 @@ class Hostile(unittest.TestCase):
         said = [it["params"]["message"] for it in self.client.notifications if it["method"] == "window/showMessage"]
         self.assertTrue(said and all("file:///" in it for it in said))
 
+    def lost(self, message):
+        """Returns which of two open documents a message loses."""
+        self.client.open("a: a")
+        self.client.open("b: b", "file:///b.nix")
+        self.client.write(message if message.startswith(b"Content") else frame(message))
+        found = [self.client.request("textDocument/hover", {"textDocument": {"uri": uri}, "position": place((0, 0))}) for uri in (URI, "file:///b.nix")]
+        answers = []
+        while len(answers) < 2:
+            answer = self.client.response()
+            answers += [answer] if answer["id"] in found else []
+        return [it.get("error", {}).get("code") == -32803 for it in answers]
+
+    def test_a_message_loses_what_it_may_have_changed(self):
+        def change(uri, **others):
+            return json.dumps({"jsonrpc": "2.0", **others, "params": {"textDocument": {"uri": uri}, "contentChanges": []}}).encode()
+
+        one, other, byte = [True, False], [True, True], (b"contentChanges", b"contentChanges\xe9")
+        did_change, did_open = {"method": "textDocument/didChange"}, {"method": "textDocument/didOpen"}
+        for message, wanted in [
+            (change(URI, **did_change).replace(*byte), one),
+            (change(URI, **did_change).replace(b"t.nix", b"\xe9.nix"), other),
+            (change("file:///c.nix", **did_open).replace(*byte), [False, False]),
+            (change(URI, method="$/cancelRequest").replace(*byte), [False, False]),
+            (change(URI, method="textDocument/hover", id=0).replace(*byte), [False, False]),
+            (change(URI, **did_change, id=0), one),
+            (change(URI, **did_change, id=0).replace(*byte), one),
+            (change(URI, method=7), other),
+            (b"[%s]" % change(URI, **did_change), other),
+            (b"{", other),
+        ]:
+            self.assertEqual(self.lost(message), wanted, message)
+
+    def test_requests_before_a_loss_are_not_answered(self):
+        self.client.open("{a=1;}")
+        for last in (b"{", frame({"jsonrpc": "2.0", "method": "textDocument/didChange", "params": {"textDocument": {"uri": URI}, "x": "Q"}}).replace(b"Q", b"\xe9")):
+            self.client.open("{a=1;}")
+            number = self.client.count = self.client.count + 1
+            options = {"textDocument": {"uri": URI}, "options": {"tabSize": 2, "insertSpaces": True}}
+            request = frame({"jsonrpc": "2.0", "id": number, "method": "textDocument/formatting", "params": options})
+            slow = frame({"jsonrpc": "2.0", "method": "textDocument/didOpen", "params": {"textDocument": {"uri": "file:///slow.nix", "text": packages(2_000_000)}}})
+            hover = frame({"jsonrpc": "2.0", "id": -1, "method": "textDocument/hover", "params": {"textDocument": {"uri": "file:///slow.nix"}, "position": place((0, 0))}})
+            self.client.write(slow + hover + request + (last if last.startswith(b"Content") else frame(last)))
+            answers = [self.client.response() for _ in range(3)]
+            (found,) = [it for it in answers if it["id"] == number]
+            self.assertEqual(found["error"]["code"], -32801)
+
     def test_what_is_no_request_is_invalid(self):
         for message in (b"[]", b"1", b"null", b"{}", b'{"id":1}', b'{"method":1,"id":2}', b'[{"id":1,"method":"shutdown"}]'):
             self.client.write(frame(message))
@@ -183,14 +229,18 @@ class Hostile(unittest.TestCase):
                 return [value(depth + 1)]
             return [None, True, numbers.choice([-1, 0, 1, 2.5, 1e300, 2**53]), "a"][kind]
 
-        self.client.open("let a = 1; in { inherit a; }")
+        text, codes = "let a = 1; in { inherit a; }", set()
+        self.client.open(text)
         for _ in range(2000):
             params = value(0)
             if isinstance(params, dict):
                 params["textDocument"] = {"uri": URI}
             if numbers.random() < 0.3:
                 self.client.tell("textDocument/didChange", params)
-            self.client.ask(f"textDocument/{numbers.choice(METHODS)}", params)
+                self.client.open(text)
+            found = self.client.ask(f"textDocument/{numbers.choice(METHODS)}", params)
+            codes.add(found["code"] if isinstance(found, dict) and "code" in found else None)
+        self.assertEqual(codes, {None, -32602})
 
     def test_positions_out_of_range_mean_the_nearest_end(self):
         self.client.open("a: b")
@@ -288,7 +338,7 @@ class Hostile(unittest.TestCase):
     def test_diagnostics_are_bounded(self):
         self.client.open("let " + "".join(f"n{it} = 1; " for it in range(3_000)) + "in 1")
         found = self.client.diagnostics()
-        self.assertEqual((len(found), found[-1]["message"]), (1001, "2000 more errors and unused names are not shown"))
+        self.assertEqual((len(found), found[-1]["message"]), (1001, "errors and unused names that are not shown: 2000"))
 
     def test_each_request_has_one_answer_even_if_cancelled(self):
         self.client.open(packages(100_000))

@@ -69,7 +69,7 @@ fn more(document: &Document, count: usize) -> Value {
         ("source", "rnix".into()),
         (
             "message",
-            format!("{count} more errors and unused names are not shown").into(),
+            format!("errors and unused names that are not shown: {count}").into(),
         ),
     ])
 }
