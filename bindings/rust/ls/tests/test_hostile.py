@@ -126,7 +126,7 @@ class Hostile(unittest.TestCase):
             count += 1
             self.client.open(text, "file:///whole.nix")
             self.assertEqual(found, self.client.at("formatting", uri="file:///whole.nix", options={"tabSize": 2, "insertSpaces": True}))
-        self.assertGreater(count, 200)
+        self.assertGreater(count, 150)
         said = [it["params"]["message"] for it in self.client.notifications if it["method"] == "window/showMessage"]
         self.assertTrue(said and all("file:///" in it for it in said))
 
