@@ -334,10 +334,10 @@ class Edits(unittest.TestCase):
         self.assertEqual(edits.apply(), "x12äb")
 
     def test_a_node_of_another_text_is_refused(self):
-        edits = rnix.Edits("{ a = 1; }")
+        edits = rnix.Edits("{ a = 1 + 222; }")
         self.assertRaises(rnix.EditError, edits.replace, next(rnix.parse("{ b = [ 2 ]; }").root.find("NODE_LIST")), "Z")
-        edits.replace(next(rnix.parse("{ a = 1; }").root.find("NODE_LITERAL")), "2")
-        self.assertEqual(edits.apply(), "{ a = 2; }")
+        edits.replace(next(rnix.parse("{ a = 1 + 222; }").root.find("NODE_LITERAL")), "2")
+        self.assertEqual(edits.apply(), "{ a = 2 + 222; }")
 
     def test_many_edits_take_no_time_for_each_pair(self):
         count = 16_000
