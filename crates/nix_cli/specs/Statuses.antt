@@ -1,9 +1,13 @@
 -- The exit status of a program that does the same with each of its files.
-use Rattle.std.specs.Prelude.{ℕ, ◌==◌, List, [], ◌∷◌, ◌++◌, max, Option, if◌then◌else◌}
+use Rattle.std.specs.Prelude.{ℕ, ◌==◌, Bool, List, [], ◌∷◌, ◌++◌, max, Option, if◌then◌else◌}
 
 -- the status before any file is read, given the number of folders that could not be read
 abbrev pub first_status : ℕ → ℕ
 first_status failed = if failed == 0 then 0 else 2
+
+-- the status of a file in which something is found, unless it is good
+abbrev pub file_status : Bool → ℕ
+file_status good = if good then 0 else 1
 
 -- what happens to a file: its name, the output before and after it, and its status
 abbrev pub FileEffect : Type 1

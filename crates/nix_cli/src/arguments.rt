@@ -199,6 +199,14 @@ impl Arguments {
         Ok(())
     }
 
+    // Returns whether the task is to run, with all the words that the program needs.
+    fn may_run(&self, program: &Program) -> bool {
+        match self.task {
+            Task::Run => !self.is_color_next && self.words.len() >= program.min_words,
+            Task::Help | Task::Version | Task::Refuse(..) => false,
+        }
+    }
+
     // Reads the next argument, or ignores it once the task is another one.
     fn add(&mut self, program: &Program, argument: String) -> Result<(), AllocError>
         ensures { OnOk result (parsed_of self.new ≡ and_argument (options_of program.now) (string_bytes argument) (parsed_of self.old)) }
@@ -233,39 +241,47 @@ fn help(rt: &HostRuntime, program: &Program) -> io::Result<()> {
     out.write_all(program.statuses.as_bytes())
 }
 
+// Prints the program's name and version.
+fn version(rt: &HostRuntime, program: &Program) -> io::Result<()> {
+    writeln!(rt.stdout(), "{} {VERSION}", program.name)
+}
+
+// Reports why the command line is refused.
+fn refuse_arguments(rt: &HostRuntime, program: &Program, given: &Arguments) -> io::Result<()> {
+    match &given.task {
+        Task::Refuse(reason, argument) => { eprintln!(rt; "{}: {reason} {argument}", program.name) }
+        _ if given.is_color_next => refuse(rt, program, "--color needs a value"),
+        _ => refuse(rt, program, "missing argument"),
+    }
+}
+
+// Ends a program that is not to run: prints the help or the version, or reports what is wrong. Returns the status.
+fn answer(rt: &HostRuntime, program: &Program, given: &Arguments) -> io::Result<u8> {
+    match given.task {
+        Task::Help => help(rt, program).map(|()| 0),
+        Task::Version => version(rt, program).map(|()| 0),
+        Task::Run | Task::Refuse(..) => {
+            refuse_arguments(rt, program, given)?;
+            eprintln!(rt; "see {} --help", program.name)?;
+            Ok(FAILED)
+        }
+    }
+}
+
 // Parses the command line of the process.
-fn parsed(rt: &HostRuntime, program: &Program) -> io::Result<Start> {
+fn parsed(rt: &HostRuntime, program: &Program) -> io::Result<Arguments> {
     let mut arguments = Vec::new(rt.alloc());
     for argument in env::args(rt)?.skip(1) {
         arguments.push(argument)?;
     }
-    let given = parse_arguments(rt.alloc(), program, &arguments)?;
-    match &given.task {
-        Task::Run if given.is_color_next => refuse(rt, program, "--color needs a value")?,
-        Task::Run if given.words.len() < program.min_words => {
-            refuse(rt, program, "missing argument")?
-        }
-        Task::Run => return Ok(Start::Run(given)),
-        Task::Help => {
-            help(rt, program)?;
-            return Ok(Start::End(Ok(0)));
-        }
-        Task::Version => {
-            writeln!(rt.stdout(), "{} {VERSION}", program.name)?;
-            return Ok(Start::End(Ok(0)));
-        }
-        Task::Refuse(reason, argument) => {
-            eprintln!(rt; "{}: {reason} {argument}", program.name)?
-        }
-    }
-    eprintln!(rt; "see {} --help", program.name)?;
-    Ok(Start::End(Ok(FAILED)))
+    Ok(parse_arguments(rt.alloc(), program, &arguments)?)
 }
 
 /// Parses the command line of the process. Prints the help or the version, or reports on standard error what is wrong.
 pub fn read_arguments(rt: &HostRuntime, program: &Program) -> Start {
     match parsed(rt, program) {
-        Ok(start) => start,
+        Ok(given) if given.may_run(program) => Start::Run(given),
+        Ok(given) => Start::End(answer(rt, program, &given)),
         Err(error) => Start::End(Err(error)),
     }
 }

@@ -1,6 +1,8 @@
 //! Exit statuses and refusals.
 
+ghost use Rattle.std.specs.Prelude.{◌≡◌};
 ghost use Rattle.std.specs.Io.KnownBytes.{Keeps};
+ghost use Rattle.nix_cli.specs.Statuses.{file_status};
 
 use crate::arguments::Program;
 use std::io::{self, Write};
@@ -10,6 +12,13 @@ use std::process::ExitCode;
 pub const FOUND: u8 = 1;
 /// The exit status if something could not be done.
 pub const FAILED: u8 = 2;
+
+/// Returns the exit status for a file: 0 if it is good, and otherwise [`FOUND`].
+pub fn file_status(is_good: bool) -> u8
+    ensures { result ≡ file_status is_good }
+{
+    if is_good { 0 } else { FOUND }
+}
 
 /// Reports on standard error why something was refused.
 pub fn refuse(rt: &HostRuntime, program: &Program, reason: &str) -> io::Result<()> {

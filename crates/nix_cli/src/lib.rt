@@ -13,7 +13,7 @@ mod source;
 
 pub use arguments::{Arguments, Program, Start, VERSION, parse_arguments, read_arguments};
 pub use colors::is_colored;
-pub use ending::{FAILED, FOUND, end, refuse, refuse_after_output};
+pub use ending::{FAILED, FOUND, end, file_status, refuse, refuse_after_output};
 pub use excerpt::write_excerpt;
 pub use file_replacement::{replace_text, replaceable};
 pub use files::{

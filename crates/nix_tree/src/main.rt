@@ -5,11 +5,10 @@ mod json;
 
 use json::write_json;
 use nix_cli::{
-    Arguments, FAILED, FOUND, Inputs, Program, Start, display_name, end, find_inputs,
+    Arguments, FAILED, Inputs, Program, Start, display_name, end, file_status, find_inputs,
     read_arguments,
 };
-use rnix_print::{RunError, run, status};
-use std::alloc::Global;
+use rnix_print::print_text;
 use std::io::{self, BufWriter, Write};
 use std::process::ExitCode;
 
@@ -32,17 +31,6 @@ Ends with 0 if there are no errors, 1 if there are some, 2 if something could no
     max_words: usize::MAX,
 };
 
-// Prints the errors and the tree of a text, and returns the status.
-fn print_text<W: Write>(alloc: Global, text: &str, out: &mut W) -> io::Result<u8> {
-    let outcome = run(alloc, &mut text.as_bytes(), out);
-    match &outcome {
-        Ok(_) | Err(RunError::NotUtf8) => Ok(status(&outcome)),
-        Err(RunError::Read) => Err(io::Error::other("cannot read input")),
-        Err(RunError::Write) => Err(io::Error::other("cannot write output")),
-        Err(RunError::Memory) => Err(io::Error::other("out of memory")),
-    }
-}
-
 // Prints one of some files, and returns the status.
 fn print_file<W: Write>(
     rt: &HostRuntime,
@@ -57,12 +45,13 @@ fn print_file<W: Write>(
     };
     if is_json {
         let is_good = write_json(rt.alloc(), display_name(name), text.as_str(), out)?;
-        return Ok(if is_good { 0 } else { FOUND });
+        return Ok(file_status(is_good));
     }
     if let Some(before) = heading {
         writeln!(out, "{before}==> {} <==", display_name(name))?;
     }
-    print_text(rt.alloc(), text.as_str(), out)
+    let is_good = print_text(rt.alloc(), text.as_str(), out)?;
+    Ok(file_status(is_good))
 }
 
 // Prints the files that the command line names, and returns the worst status of all.

@@ -10,7 +10,7 @@ use nix_cli::write_json_string;
 use nix_scopes::{Binding, Reference, resolve};
 use rnix::ast::{AstNode, AttrpathValue, InterpolPart, Select, Str};
 use rnix::{Root, SyntaxNode};
-use rnix_print::run;
+use rnix_print::print_text;
 use rnix_text::{ColumnUnit, LineIndex};
 use std::alloc::{AllocError, Global};
 use std::collections::HashMap;
@@ -156,13 +156,10 @@ fn index_text(alloc: Global, text: &str, digest: &mut Digest) -> io::Result<()> 
 }
 
 // Prints the tree of a text.
-fn print_text(alloc: Global, text: &str, digest: &mut Digest) -> io::Result<()> {
+fn print(alloc: Global, text: &str, digest: &mut Digest) -> io::Result<()> {
     let mut out: Vec<u8> = Vec::new(alloc);
-    let mut input = text.as_bytes();
-    match run(alloc, &mut input, &mut out) {
-        Ok(is_good) => digest.add_number(usize::from(is_good)),
-        Err(_) => digest.add_number(2),
-    }
+    let is_good = print_text(alloc, text, &mut out)?;
+    digest.add_number(usize::from(is_good));
     digest.add_bytes(&out);
     Ok(())
 }
@@ -189,7 +186,7 @@ pub fn index(
         let nested = lets(alloc, words, own, options / 10)?;
         index_text(alloc, nested.as_str(), digest)?;
         let made = generated(alloc, words, own, options)?;
-        print_text(alloc, made.as_str(), digest)?;
+        print(alloc, made.as_str(), digest)?;
     }
     Ok(())
 }

@@ -1,4 +1,2 @@
-pub mod Outcome
 pub mod OutputLines
-pub mod Moved
-pub mod Ran
+pub mod Printed

@@ -1,12 +1,9 @@
-//! The output and the exit status of `nix-tree`.
+//! The output of `nix-tree`.
 #![tactic(auto)]
 
 mod error_lines;
-mod input;
-mod outcome;
-mod running;
+mod printing;
 mod tree_lines;
 
-pub use outcome::{RunError, message, status};
+pub use printing::{PrintError, print_text};
 pub use rnix_tree::dump;
-pub use running::run;

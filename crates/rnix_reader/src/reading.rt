@@ -111,28 +111,25 @@ fn start_operand<'t>(
 {
     let over = Position::AfterOperand(level, SELECTION_LEVEL);
     match how {
-        OperandStart::Leaf(kind) => start_leaf(p, kind, level, depth, first)?,
-        OperandStart::Node(kind, position, max_bp) => {
-            p.node_operand(
-                kind,
-                Position::InRow(position),
-                Position::AfterOperand(level, max_bp),
-                depth,
-            )?;
-        }
-        OperandStart::LegacyLet => start_let(p, Position::AfterOperand(level, NO_LEVEL), depth)?,
+        OperandStart::Leaf(kind) => start_leaf(p, kind, level, depth, first),
+        OperandStart::Node(kind, position, max_bp) => p.node_operand(
+            kind,
+            Position::InRow(position),
+            Position::AfterOperand(level, max_bp),
+            depth,
+        ),
+        OperandStart::LegacyLet => start_let(p, Position::AfterOperand(level, NO_LEVEL), depth),
         OperandStart::NameLambda => {
             p.lambda(over, depth)?;
-            p.parameter()?;
+            p.parameter()
         }
-        OperandStart::BoundLambda => start_bound_lambda(p, names, over, depth)?,
-        OperandStart::PatternLambda => start_pattern_lambda(p, names, over, depth)?,
+        OperandStart::BoundLambda => start_bound_lambda(p, names, over, depth),
+        OperandStart::PatternLambda => start_pattern_lambda(p, names, over, depth),
         OperandStart::Stray => {
             p.open_operand(over, depth)?;
-            p.stray(first)?;
+            p.stray(first)
         }
     }
-    Ok(())
 }
 
 // Begins an operand of a level.
@@ -147,15 +144,12 @@ fn operand<'t>(
     ensures names { OnOk result (NamesFor (opens_on level (items_remaining (state p.old))) names.old names.new) }
 {
     match p.item() {
-        Some(first) => {
-            match p.operand_start(level, first) {
-                OperandStart::Leaf(kind) => start_leaf(p, kind, level, depth, first)?,
-                how => start_operand(p, names, how, level, depth, first)?,
-            }
-        }
-        None => p.fail_at_end()?,
+        Some(first) => match p.operand_start(level, first) {
+            OperandStart::Leaf(kind) => start_leaf(p, kind, level, depth, first),
+            how => start_operand(p, names, how, level, depth, first),
+        },
+        None => p.fail_at_end(),
     }
-    Ok(())
 }
 
 // Begins an operand that binds at least as tightly as `level`. `counted` is whether it adds one to the nesting depth.
@@ -231,31 +225,30 @@ fn step<'t>(
     ensures names { OnOk result (NamesAfter action mark (state p.old) names.old names.new) }
 {
     match action {
-        Action::Close => p.finish_node()?,
+        Action::Close => p.finish_node(),
         Action::ClosePattern => {
             names.close_pattern();
-            p.finish_node()?;
+            p.finish_node()
         }
-        Action::CloseEntry => close_entry(p, names)?,
-        Action::CloseDoubleBind => close_double_bind(p, names.second)?,
-        Action::Extra => p.extra_run(mark)?,
-        Action::Take(after) => p.take(mark, after)?,
-        Action::Miss(after) => p.miss(mark, after)?,
-        Action::MissWanted(until, after) => p.miss_wanted(mark, until, after)?,
-        Action::Run(until, after) => p.unwanted_run(mark, until, after)?,
-        Action::Leaf(kind, after) => p.leaf(mark, kind, after)?,
-        Action::Open(kind, inside, after) => p.open(mark, kind, inside, after)?,
-        Action::OpenEmpty(kind, inside, after) => p.open_empty(mark, kind, inside, after)?,
-        Action::Entry(after) => open_entry(p, names, mark, after)?,
-        Action::DoubleBind(after) => open_double_bind(p, names, mark, after)?,
-        Action::Read(level, counted, after) => read_part(p, names, mark, level, counted, after)?,
+        Action::CloseEntry => close_entry(p, names),
+        Action::CloseDoubleBind => close_double_bind(p, names.second),
+        Action::Extra => p.extra_run(mark),
+        Action::Take(after) => p.take(mark, after),
+        Action::Miss(after) => p.miss(mark, after),
+        Action::MissWanted(until, after) => p.miss_wanted(mark, until, after),
+        Action::Run(until, after) => p.unwanted_run(mark, until, after),
+        Action::Leaf(kind, after) => p.leaf(mark, kind, after),
+        Action::Open(kind, inside, after) => p.open(mark, kind, inside, after),
+        Action::OpenEmpty(kind, inside, after) => p.open_empty(mark, kind, inside, after),
+        Action::Entry(after) => open_entry(p, names, mark, after),
+        Action::DoubleBind(after) => open_double_bind(p, names, mark, after),
+        Action::Read(level, counted, after) => read_part(p, names, mark, level, counted, after),
         Action::Finish
         | Action::EndOperand
         | Action::Wrap(_, _, _)
         | Action::Apply
         | Action::ApplyOr => unreachable!(),
     }
-    Ok(())
 }
 
 // Continues the operand that was read, by an action that does so.
@@ -275,13 +268,12 @@ fn continue_operand<'t>(
 {
     match action {
         Action::Wrap(kind, inside, max_bp) => {
-            p.wrap_and_bump(mark, Position::AfterOperand(min_bp, max_bp), kind, inside)?;
+            p.wrap_and_bump(mark, Position::AfterOperand(min_bp, max_bp), kind, inside)
         }
-        Action::Apply => apply(p, names, mark, min_bp)?,
-        Action::ApplyOr => p.apply_or(mark, Position::AfterOperand(min_bp, APPLICATION_LEVEL))?,
-        _ => {}
+        Action::Apply => apply(p, names, mark, min_bp),
+        Action::ApplyOr => p.apply_or(mark, Position::AfterOperand(min_bp, APPLICATION_LEVEL)),
+        _ => Ok(()),
     }
-    Ok(())
 }
 
 // Continues the operand that was read, if the next item continues it. Otherwise the operand is complete.

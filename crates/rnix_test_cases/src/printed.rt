@@ -3,7 +3,7 @@
 use crate::list::Case;
 use rnix::ast::{AstNode, Expr, InterpolPart};
 use rnix::{Root, tokenize};
-use rnix_print::run;
+use rnix_print::print_text;
 use std::alloc::Global;
 use std::io;
 use std::io::Write;
@@ -56,11 +56,8 @@ fn print_tokens(alloc: Global, text: &str, out: &mut Vec<u8>) -> io::Result<()> 
 
 // What the program prints.
 fn print_tree(alloc: Global, text: &str, out: &mut Vec<u8>) -> io::Result<()> {
-    let mut input = text.as_bytes();
-    match run(alloc, &mut input, out) {
-        Ok(_good) => Ok(()),
-        Err(_error) => Err(io::Error::from(io::ErrorKind::Other)),
-    }
+    let _is_good = print_text(alloc, text, out)?;
+    Ok(())
 }
 
 // A line with the variant of a part and the length of its text in bytes, and then the text.

@@ -3,7 +3,7 @@
 
 use crate::again::{read_again, report_refusal};
 use crate::compared::{Compared, prints};
-use rnix_print::{RunError, run};
+use rnix_print::{PrintError, print_text};
 use std::alloc::{AllocError, Global};
 use std::process::Abort;
 
@@ -181,25 +181,24 @@ fn a_repeated_argument_is_read_again(rt: HostRuntime) -> Result<(), AllocError> 
     is_read(&rt, rt.alloc(), "{ a, a }: a", REPEATED)
 }
 
-// Returns whether a run over `()` succeeds. If it does, it writes what is wanted; if not, memory was refused, and it writes nothing.
-fn is_run(rt: &impl Abort, alloc: Global) -> bool {
-    let mut input = "()".as_bytes();
+// Returns whether `()` is printed. If it is, what is wanted is written; if not, memory was refused, and nothing is written.
+fn is_printed(rt: &impl Abort, alloc: Global) -> bool {
     let mut out = Compared::new(EMPTY_PARENTHESIS);
-    match run(alloc, &mut input, &mut out) {
+    match print_text(alloc, "()", &mut out) {
         Ok(good) => {
             assert!(rt; !good && out.is_whole());
             true
         }
         Err(error) => {
-            assert!(rt; error == RunError::Memory && out.is_untouched());
+            assert!(rt; matches!(error, PrintError::Memory) && out.is_untouched());
             false
         }
     }
 }
 
 #[test]
-fn a_refused_run_writes_nothing(rt: HostRuntime) -> Result<(), AllocError> {
-    let refused = !is_run(&rt, rt.alloc());
-    assert!(rt; !refused || is_run(&rt, rt.alloc()));
+fn a_refused_text_writes_nothing(rt: HostRuntime) -> Result<(), AllocError> {
+    let refused = !is_printed(&rt, rt.alloc());
+    assert!(rt; !refused || is_printed(&rt, rt.alloc()));
     report_refusal(refused)
 }

@@ -1,52 +1,11 @@
-//! Readers and writers over memory that move one byte a call, and fail at one of their calls.
+//! A writer to memory that takes one byte a call, and fails at one of its calls.
 
 use std::alloc::Global;
 use std::io;
-use std::io::{ErrorKind, Read, Write};
+use std::io::{ErrorKind, Write};
 
 /// No call has this number.
 pub(crate) const NEVER: u64 = u64::MAX;
-
-/// A reader that fails at the read with a number, from 0 on. It may have an interrupt before each byte.
-#[derive(Drop)]
-pub(crate) struct Input<'a> {
-    rest: &'a [u8],
-    reads: u64,
-    fails_at: u64,
-    kind: ErrorKind,
-    interrupts: bool,
-}
-
-impl<'a> Input<'a> {
-    /// A reader of these bytes.
-    pub(crate) fn new(bytes: &'a [u8], fails_at: u64, kind: ErrorKind, interrupts: bool) -> Self {
-        Input {
-            rest: bytes,
-            reads: 0,
-            fails_at,
-            kind,
-            interrupts,
-        }
-    }
-}
-
-impl Read for Input<'_> {
-    fn read(&mut self, buf: &mut [u8]) -> io::Result<usize> {
-        let read = self.reads;
-        self.reads = read.saturating_add(1);
-        if read == self.fails_at {
-            return Err(io::Error::from(self.kind));
-        }
-        if self.interrupts && read % 2 == 0 {
-            return Err(io::Error::from(ErrorKind::Interrupted));
-        }
-        let count = self.rest.len().min(buf.len()).min(1);
-        let (now, rest) = self.rest.split_at(count);
-        buf[..count].copy_from_slice(now);
-        self.rest = rest;
-        Ok(count)
-    }
-}
 
 /// A writer that fails at the write with a number, from 0 on: with an error of a kind, or, if there is no kind, by accepting no byte.
 #[derive(Drop)]

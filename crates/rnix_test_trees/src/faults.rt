@@ -1,18 +1,17 @@
-//! Runs whose reader or writer fails at one of its calls, each call in turn.
+//! Texts whose writer fails at one of its writes, each write in turn.
 
-use crate::ends::{Input, NEVER, Output};
+use crate::ends::{NEVER, Output};
 use rnix_kinds::tokenize;
 use rnix_parser::parse;
-use rnix_print::{RunError, dump, run};
+use rnix_print::{PrintError, dump, print_text};
 use rnix_tree::SyntaxNode;
 use std::alloc::Global;
 use std::io::ErrorKind;
-use std::process::Abort;
 use std::test::Fail;
 
 const TEXT: &str = "1 +";
 
-// What a run over the text prints.
+// What is printed of the text.
 const PRINTED: &str = "error: unexpected end of file
 NODE_ROOT@0..3
   NODE_BIN_OP@0..3
@@ -29,63 +28,30 @@ const FAULTS: [Option<ErrorKind>; 3] = [
     None,
 ];
 
-// A run over a reader that fails at a read.
-fn run_over(
+// What is printed to a writer that fails at a write, and the error's kind.
+fn print_into(
     alloc: Global,
     fails_at: u64,
-    kind: ErrorKind,
-    interrupts: bool,
-) -> (Option<RunError>, Output) {
-    let mut input = Input::new(TEXT.as_bytes(), fails_at, kind, interrupts);
-    let mut out = Output::new(alloc, NEVER, None);
-    let refused = run(alloc, &mut input, &mut out).err();
-    (refused, out)
-}
-
-// Each of the first `reads` reads fails in turn: the run returns `Read` and writes nothing. If none of them fails, all is printed.
-fn fails_at_reads(rt: &impl Abort, alloc: Global, reads: u64, kind: ErrorKind, interrupts: bool) {
-    for read in 0..reads {
-        let (refused, out) = run_over(alloc, read, kind, interrupts);
-        assert!(rt;
-            refused == Some(RunError::Read) && out.writes == 0,
-            "at {read}"
-        );
-    }
-    let (refused, out) = run_over(alloc, reads, kind, interrupts);
-    assert!(rt; refused.is_none() && out.bytes.as_slice() == PRINTED.as_bytes());
-}
-
-#[test]
-fn a_read_that_fails_is_reported_and_nothing_is_written(rt: HostRuntime) {
-    for kind in [
-        ErrorKind::Other,
-        ErrorKind::OutOfMemory,
-        ErrorKind::InvalidData,
-    ] {
-        // Each byte, and the end; with interrupts, two reads for each.
-        fails_at_reads(&rt, rt.alloc(), 4, kind, false);
-        fails_at_reads(&rt, rt.alloc(), 8, kind, true);
-    }
-}
-
-// A run over a writer that fails at a write.
-fn run_into(alloc: Global, fails_at: u64, kind: Option<ErrorKind>) -> (Option<RunError>, Output) {
-    let mut input = TEXT.as_bytes();
+    kind: Option<ErrorKind>,
+) -> (Option<ErrorKind>, Output) {
     let mut out = Output::new(alloc, fails_at, kind);
-    let refused = run(alloc, &mut input, &mut out).err();
-    (refused, out)
+    let reported = match print_text(alloc, TEXT, &mut out) {
+        Err(PrintError::Write(error)) => Some(error.kind()),
+        Ok(_) | Err(PrintError::Memory) => None,
+    };
+    (reported, out)
 }
 
 #[test]
 fn a_write_that_fails_is_reported(rt: HostRuntime) {
     let wanted = PRINTED.as_bytes();
     for kind in FAULTS {
-        let (_none, good) = run_into(rt.alloc(), NEVER, kind);
+        let (_none, good) = print_into(rt.alloc(), NEVER, kind);
         assert!(rt; good.bytes.as_slice() == wanted);
         for write in 0..good.writes {
-            let (refused, out) = run_into(rt.alloc(), write, kind);
+            let (reported, out) = print_into(rt.alloc(), write, kind);
             assert!(rt;
-                refused == Some(RunError::Write) && out.stopped(wanted),
+                reported == Some(kind.unwrap_or(ErrorKind::WriteZero)) && out.stopped(wanted),
                 "at {write}"
             );
         }

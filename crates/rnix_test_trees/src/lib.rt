@@ -1,4 +1,4 @@
-//! Tests of kinds, of trees that were built by hand or read, of walks, errors, ranges, lines and edits, and of runs.
+//! Tests of kinds, of trees that were built by hand or read, of walks, errors, ranges, lines and edits, and of what is printed.
 #![tactic(auto)]
 
 #[cfg(test)]
@@ -25,8 +25,6 @@ mod kinds;
 mod parsed;
 #[cfg(test)]
 mod pointers;
-#[cfg(test)]
-mod program_runs;
 #[cfg(test)]
 mod proportion;
 #[cfg(test)]

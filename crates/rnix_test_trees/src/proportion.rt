@@ -1,6 +1,6 @@
 //! How much is printed of a text.
 
-use rnix_print::run;
+use rnix_print::print_text;
 use std::alloc::{AllocError, Global};
 use std::test::Fail;
 
@@ -21,9 +21,8 @@ fn copies(alloc: Global, part: &str) -> Result<String, AllocError> {
 
 // Whether what is printed of a text is in proportion to it.
 fn is_in_proportion(alloc: Global, text: &str) -> Result<bool, AllocError> {
-    let mut input = text.as_bytes();
     let mut out = Vec::new(alloc);
-    let is_printed = run(alloc, &mut input, &mut out).is_ok();
+    let is_printed = print_text(alloc, text, &mut out).is_ok();
     Ok(is_printed && out.len() <= text.len().saturating_mul(MOST))
 }
 
