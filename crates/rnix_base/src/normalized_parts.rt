@@ -15,15 +15,17 @@ pub(crate) fn opened<'t, I: Drop>(
     ensures { borrowed result.items ≡ opened (borrowed parts.entry.items) }
 {
     let mut parts = parts;
-    if let Some(InterpolPart::Literal(text)) = parts.first() {
-        if let Some(rest) = behind_blank(text) {
-            if rest.is_empty() {
-                parts.remove(0);
-            } else {
-                parts[0] = InterpolPart::Literal(rest);
-            }
-        }
+    let Some(InterpolPart::Literal(text)) = parts.first() else {
+        return parts;
+    };
+    let Some(rest) = behind_blank(text) else {
+        return parts;
+    };
+    if rest.is_empty() {
+        parts.remove(0);
+        return parts;
     }
+    parts[0] = InterpolPart::Literal(rest);
     parts
 }
 

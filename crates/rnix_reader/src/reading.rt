@@ -240,8 +240,8 @@ fn step<'t>(
         Action::Leaf(kind, after) => p.leaf(mark, kind, after),
         Action::Open(kind, inside, after) => p.open(mark, kind, inside, after),
         Action::OpenEmpty(kind, inside, after) => p.open_empty(mark, kind, inside, after),
-        Action::Entry(after) => open_entry(p, names, mark, after),
-        Action::DoubleBind(after) => open_double_bind(p, names, mark, after),
+        Action::Entry(after) => Ok(open_entry(p, names, mark, after)?),
+        Action::DoubleBind(after) => Ok(open_double_bind(p, names, mark, after)?),
         Action::Read(level, counted, after) => read_part(p, names, mark, level, counted, after),
         Action::Finish
         | Action::EndOperand
