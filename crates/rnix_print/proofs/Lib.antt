@@ -1,2 +1,3 @@
 mod WalkLines
 mod Indented
+mod PrintedLemmas

@@ -51,8 +51,8 @@ pub fn print_text<W: Write>(alloc: Global, text: &str, out: &mut W) -> Result<bo
     let Ok((tree, errors)) = parse(alloc, tokenize(alloc, text)) else {
         return Err(PrintError::Memory);
     };
-    match print(&tree, &errors, out) {
-        Ok(()) => Ok(errors.is_empty()),
-        Err(error) => Err(PrintError::Write(error)),
+    if let Err(error) = print(&tree, &errors, out) {
+        return Err(PrintError::Write(error));
     }
+    Ok(errors.is_empty())
 }
