@@ -5,7 +5,7 @@ use rnix_grammar::ParseError;
 use rnix_green::TextRange;
 use rnix_kinds::tokenize;
 use rnix_parser::parse;
-use rnix_tree::{SyntaxNode, WalkEvent};
+use rnix_tree::{SyntaxElement, SyntaxNode, WalkEvent};
 use std::alloc::Global;
 use std::io::{self, Write};
 
@@ -15,34 +15,50 @@ fn write_range<W: Write>(range: TextRange, out: &mut W) -> io::Result<()> {
     write!(out, ",\"start\":{start},\"end\":{end}}}")
 }
 
-// Writes the errors, each with its message and, unless it is at the end of the text, its range.
+// Returns the bytes that begin an object of a list, after `number` others.
+fn opening(number: usize) -> &'static [u8] {
+    if number > 0 { b",{" } else { b"{" }
+}
+
+// Writes an error: its message and, unless it is at the end of the text, its range.
+fn write_error<W: Write>(alloc: Global, error: &ParseError, out: &mut W) -> io::Result<()> {
+    out.write_all(b"\"message\":")?;
+    let message = format!(in alloc; "{error}")?;
+    write_json_string(message.as_str(), out)?;
+    match error.range() {
+        Some(range) => write_range(range, out),
+        None => out.write_all(b",\"start\":null,\"end\":null}"),
+    }
+}
+
+// Writes the errors.
 fn write_errors<W: Write>(alloc: Global, errors: &[ParseError], out: &mut W) -> io::Result<()> {
     for (number, error) in errors.iter().enumerate() {
-        out.write_all(if number > 0 { b",{" } else { b"{" })?;
-        out.write_all(b"\"message\":")?;
-        let message = format!(in alloc; "{error}")?;
-        write_json_string(message.as_str(), out)?;
-        match error.range() {
-            Some(range) => write_range(range, out)?,
-            None => out.write_all(b",\"start\":null,\"end\":null}")?,
-        }
+        out.write_all(opening(number))?;
+        write_error(alloc, error, out)?;
     }
     Ok(())
 }
 
-// Writes the elements of a tree in preorder, each with its depth, its kind and its range.
+// Writes an element: its depth, its kind and its range.
+fn write_element<W: Write>(
+    element: &SyntaxElement<'_>,
+    depth: usize,
+    out: &mut W,
+) -> io::Result<()> {
+    out.write_all(opening(depth))?;
+    let kind = element.kind().name();
+    write!(out, "\"depth\":{depth},\"kind\":\"{kind}\"")?;
+    write_range(element.text_range(), out)
+}
+
+// Writes the elements of a tree in preorder.
 fn write_elements<W: Write>(root: &SyntaxNode<'_>, out: &mut W) -> io::Result<()> {
     let mut depth: usize = 0;
     for event in root.preorder_with_tokens() {
         match event {
             WalkEvent::Enter(element) => {
-                out.write_all(if depth > 0 { b",{" } else { b"{" })?;
-                write!(
-                    out,
-                    "\"depth\":{depth},\"kind\":\"{}\"",
-                    element.kind().name()
-                )?;
-                write_range(element.text_range(), out)?;
+                write_element(&element, depth, out)?;
                 depth = depth.saturating_add(1);
             }
             WalkEvent::Leave(_) => depth = depth.saturating_sub(1),

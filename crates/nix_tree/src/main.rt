@@ -31,13 +31,30 @@ Ends with 0 if there are no errors, 1 if there are some, 2 if something could no
     max_words: usize::MAX,
 };
 
+// Returns what precedes the heading of the file with a number, or `None` if it is the only file and has no heading.
+fn before_heading(number: usize, is_alone: bool) -> Option<&'static str> {
+    match (is_alone, number) {
+        (true, _) => None,
+        (false, 0) => Some(""),
+        (false, _) => Some("\n"),
+    }
+}
+
+// Writes the heading of a file, if it has one.
+fn write_heading<W: Write>(before: Option<&str>, name: &str, out: &mut W) -> io::Result<()> {
+    match before {
+        Some(before) => writeln!(out, "{before}==> {} <==", display_name(name)),
+        None => Ok(()),
+    }
+}
+
 // Prints one of some files, and returns the status.
 fn print_file<W: Write>(
     rt: &HostRuntime,
     inputs: &Inputs,
     name: &str,
     is_json: bool,
-    heading: Option<&str>,
+    before: Option<&str>,
     out: &mut W,
 ) -> io::Result<u8> {
     let Some(text) = inputs.read_text(rt, &PROGRAM, name, out)? else {
@@ -47,9 +64,7 @@ fn print_file<W: Write>(
         let is_good = write_json(rt.alloc(), display_name(name), text.as_str(), out)?;
         return Ok(file_status(is_good));
     }
-    if let Some(before) = heading {
-        writeln!(out, "{before}==> {} <==", display_name(name))?;
-    }
+    write_heading(before, name, out)?;
     let is_good = print_text(rt.alloc(), text.as_str(), out)?;
     Ok(file_status(is_good))
 }
@@ -62,12 +77,8 @@ fn print_files(rt: &HostRuntime, arguments: &Arguments) -> io::Result<u8> {
     let mut out = BufWriter::new(rt.alloc(), rt.stdout())?;
     let mut worst = files.status();
     for (number, name) in files.names.iter().enumerate() {
-        let heading = match (is_alone, number) {
-            (true, _) => None,
-            (false, 0) => Some(""),
-            (false, _) => Some("\n"),
-        };
-        let own = print_file(rt, &inputs, name.as_str(), is_json, heading, &mut out)?;
+        let before = before_heading(number, is_alone);
+        let own = print_file(rt, &inputs, name.as_str(), is_json, before, &mut out)?;
         worst = worst.max(own);
     }
     out.flush()?;

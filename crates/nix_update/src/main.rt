@@ -11,6 +11,7 @@ mod inner;
 mod insertion_sets;
 mod meaning;
 mod node_start;
+mod other_value;
 mod outcome;
 mod path;
 mod path_match;
@@ -26,6 +27,7 @@ use nix_cli::{
     Arguments, FAILED, FOUND, Program, Start, display_name, end, location_of, read_arguments,
     read_text, refuse, write_text,
 };
+use other_value::is_other_value;
 use outcome::{Outcome, Refused};
 use request::{Action, Update};
 use std::io;
@@ -163,6 +165,18 @@ fn update_file(rt: &HostRuntime, name: &str, update: Update<'_>, in_place: bool)
     }
 }
 
+// Says on standard error that a new attribute is a string, if its text is also a number, `true`, `false` or `null`.
+fn tell_of_string(rt: &HostRuntime, update: Update<'_>) -> io::Result<()> {
+    if update.action != Action::Add || update.form != Form::Text {
+        return Ok(());
+    }
+    if !is_other_value(rt.alloc(), update.value)? {
+        return Ok(());
+    }
+    let value = update.value;
+    eprintln!(rt; "nix-update: the value is the string \"{value}\"; with --raw it is {value}")
+}
+
 // Runs the program with some arguments.
 fn run_with(rt: &HostRuntime, arguments: &Arguments) -> io::Result<u8> {
     if let Some(reason) = wrong_with(arguments) {
@@ -184,7 +198,11 @@ fn run_with(rt: &HostRuntime, arguments: &Arguments) -> io::Result<u8> {
         value,
         is_forced: arguments.has("--force"),
     };
-    update_file(rt, name, update, arguments.has("-i"))
+    let status = update_file(rt, name, update, arguments.has("-i"))?;
+    if status == 0 {
+        tell_of_string(rt, update)?;
+    }
+    Ok(status)
 }
 
 fn main(rt: HostRuntime) -> ExitCode {
