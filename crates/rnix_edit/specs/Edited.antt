@@ -103,7 +103,8 @@ NoNode root = ⊥
 abbrev pub IsTreeReplaced : Located → Located → SyntaxKind → List ℕ → Located → Type 0
 IsTreeReplaced root node kind new other = IsAround root (node_range_of node) other (node_range_at kind (item_of node).start new)
 
--- the text with a new text in place of a node: the new text is one node of the kind, the same as when parsed alone, and the tree around it is unchanged
+-- the text with a new text in place of a node: the new text is one node of the kind, an expression or an entry the same as when parsed alone, and the
+-- tree around it is unchanged
 abbrev pub IsReplaced : List ℕ → Located → Located → SyntaxKind → List ℕ → List ℕ → Type 0
 IsReplaced text root node kind new made =
     IsMade text (item_of node).start (item_of node).end new
@@ -135,7 +136,8 @@ IsNotRemoved refusal text root node = IsNotCutOut refusal text root node (cut_of
 abbrev pub node_range_in : Gap → SyntaxKind → List ℕ → NodeRange
 node_range_in gap kind new = node_range_at kind (gap.start + length gap.before) new
 
--- the text with a new text in a gap: the root of its tree satisfies `so`, and the new node of the kind is the one that its text gives when parsed alone
+-- the text with a new text in a gap: the root of its tree satisfies `so`, and the new node of the kind, if it is an expression or an entry, is the one
+-- that its text gives when parsed alone
 abbrev pub IsFilled : (Gap → Located → Type 0) → SyntaxKind → List ℕ → List ℕ → Gap → List ℕ → Type 0
 IsFilled so kind text new gap made =
     IsMade text gap.start gap.end (put_in gap new) (Both (so gap) (IsAsAlone new (node_range_in gap kind new))) made

@@ -40,7 +40,7 @@ fn node_range_in(gap: &Gap, kind: SyntaxKind, new: &str) -> Result<NodeRange, Al
 
 /// Returns the text with a new node after another one: an entry of a set or a `let`, or an item of a list. If the other one has a line of
 /// its own, the new one goes on the next line, with the same indentation, after the comments on that line; otherwise it follows after a space.
-/// The new text must parse as one node of this kind, the same as alone. `root` is the root of the tree of `text`.
+/// The new text must parse as one node of this kind; an expression or an entry also the same as alone. `root` is the root of the tree of `text`.
 pub fn insert_after(
     alloc: Global,
     text: &str,
@@ -69,7 +69,8 @@ pub fn insert_after(
 }
 
 /// Returns the text with a new node before the closing bracket of a set or a list, which may be empty. The new node goes on a line of its own if
-/// the bracket has one. The new text must parse as one node of this kind, the same as alone. `root` is the root of the tree of `text`.
+/// the bracket has one. The new text must parse as one node of this kind; an expression or an entry also the same as alone. `root` is the root of
+/// the tree of `text`.
 pub fn insert_inside(
     alloc: Global,
     text: &str,

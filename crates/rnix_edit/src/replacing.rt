@@ -61,8 +61,8 @@ fn replaced_range(node: &SyntaxNode<'_>, kind: SyntaxKind, new: &str) -> NodeRan
     node_range_at(kind, old.start, new)
 }
 
-/// Returns the text with a new text in place of a node. The new text must parse as one node of this kind, the same as alone.
-/// `root` is the root of the tree of `text`.
+/// Returns the text with a new text in place of a node. The new text must parse as one node of this kind; an expression or an entry also the same as
+/// alone. `root` is the root of the tree of `text`.
 pub fn replace(
     alloc: Global,
     text: &str,

@@ -1,2 +1,2 @@
-//! The test along the rows and the strict grammar say the same.
+//! The leaves of an expression of the strict grammar are tokens, and none of its trees is an accepted extension.
 #![tactic(auto)]

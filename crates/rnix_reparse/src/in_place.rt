@@ -16,7 +16,7 @@ use std::alloc::{AllocError, Global};
 
 /// Updates a parse to that of the text after an edit, which replaces the bytes in `range`: the result is what `reparse` returns. If a node is parsed alone and
 /// has as many elements as before, the tree is not copied: only the node's elements and the starts of those after it are written. The text is copied. If
-/// memory is refused, the parse stays as it was.
+/// memory is refused, the parse stays as it was. The parse and the range must be as for `reparse`.
 pub fn reparse_in_place(
     alloc: Global,
     parse: &mut Parse,

@@ -86,7 +86,8 @@ pub(crate) fn reparse_node(
 /// Returns the parse of a text after an edit that replaces the bytes in `range`, from the parse of the text before: the tree and the errors that
 /// `Root::parse` returns for the new text. If the old text has no errors and the edit is between the brackets of a list, of a set, of a `let { }`, of
 /// parentheses or of a string, only that node is parsed again, where its new text alone is read without errors as one such node. Otherwise the next such node
-/// around it is tried, and then the whole text is parsed; trials parse at most a twentieth of it. The new parse may be edited in turn.
+/// around it is tried, and then the whole text is parsed; trials parse at most a twentieth of it. The new parse may be edited in turn. `old` must come from
+/// `parse_text`, or from an edit, and `range` must begin and end between characters of its text, as a range of `editable_range` does.
 pub fn reparse(
     alloc: Global,
     old: &Parse,

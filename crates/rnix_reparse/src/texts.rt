@@ -6,7 +6,7 @@ ghost use Rattle.rnix_reparse.specs.EditedRange.{edited};
 
 use std::alloc::{AllocError, Global};
 
-/// Returns a text with a replacement for the bytes from `start` to `end`.
+/// Returns a text up to `start`, then a replacement, then the text from `end` on.
 pub fn edited_text(
     alloc: Global,
     text: &str,
