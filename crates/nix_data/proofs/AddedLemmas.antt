@@ -6,20 +6,8 @@ use Rattle.rnix_kinds.specs.declared.kinds.SyntaxKind.TheVariants as k
 use Rattle.rnix_green.specs.Tree.{Located, item_of}
 use Rattle.rnix_green.specs.Walk.{nodes_in, children_of}
 use Rattle.nix_values.specs.Built.{Built}
-use Rattle.nix_data.specs.Scalars.{key_of}
+use Rattle.nix_data.specs.Meaning.{key_of}
 use Rattle.nix_data.specs.Added.{Place, attribute, set_from, path_from, path_in, scalar_begun, begun_as, begun, place_for, place_after, all_added, inside_added, added}
-
--- a node of any other kind adds the value of an expression that is neither a list nor a set
-pub begun_other : (kind : SyntaxKind) (place : Place) (e : Located) (values : List Built) → (kind ≡ k.NODE_ROOT → ⊥) → (kind ≡ k.NODE_PAREN → ⊥) →
-    (kind ≡ k.NODE_LIST → ⊥) → (kind ≡ k.NODE_ATTR_SET → ⊥) → (kind ≡ k.NODE_ATTRPATH_VALUE → ⊥) → (kind ≡ k.NODE_ATTRPATH → ⊥) →
-    begun_as kind place e values ≡ scalar_begun place e values
-begun_other k.NODE_ROOT place e values a b c d f g = absurd (a refl)
-begun_other k.NODE_PAREN place e values a b c d f g = absurd (b refl)
-begun_other k.NODE_LIST place e values a b c d f g = absurd (c refl)
-begun_other k.NODE_ATTR_SET place e values a b c d f g = absurd (d refl)
-begun_other k.NODE_ATTRPATH_VALUE place e values a b c d f g = absurd (f refl)
-begun_other k.NODE_ATTRPATH place e values a b c d f g = absurd (g refl)
-begun_other _ place e values a b c d f g = refl
 
 -- what a node and the nodes inside it add, given what the node itself adds
 added_next : (levels : ℕ) (place : Place) (e : Located) (old : List Built) (first : Option Place × List Built) → begun place e old ≡ Some first →
@@ -60,16 +48,6 @@ pub begun_inside : (levels : ℕ) (place inner : Place) (e : Located) (all : Lis
 begun_inside levels place inner e all old more some same is =
     ap (λ nodes. all_added (added (levels - 1)) inner nodes more) same ∙ sym (added_begun levels place e old (Some inner, more) some is)
 
--- a node adds its values, and one less remains
-pub left_node : (add : Place → Located → List Built → Option (List Built)) (place own rest : Place) (remaining after : List Located) (e : Located)
-    (values more : List Built) (whole : Option (List Built)) → remaining ≡ e ∷ after → own ≡ place_for (item_of e).kind place →
-    rest ≡ place_after (item_of e).kind place → add own e values ≡ Some more → IsLeft add place remaining values whole → IsLeft add rest after more whole
-left_node add place own rest remaining after e values more whole first at_own at_rest is left =
-    let added_there : add (place_for (item_of e).kind place) e values ≡ Some more = ap (λ p. add p e values) (sym at_own) ∙ is in
-    ap (λ p. all_added add p after more) at_rest
-    ∙ sym (ap (option_and_then (all_added add (place_after (item_of e).kind place) after)) added_there)
-    ∙ subst (λ nodes. IsLeft add place nodes values whole) first left
-
 -- if a node cannot add its values, nothing is added
 pub left_refused : (add : Place → Located → List Built → Option (List Built)) (place own : Place) (remaining after : List Located) (e : Located)
     (values : List Built) (whole : Option (List Built)) → remaining ≡ e ∷ after → own ≡ place_for (item_of e).kind place →
@@ -88,18 +66,3 @@ left_none add place remaining values whole none left = sym left ∙ ap (λ nodes
 abbrev pub path_left : ℕ → ℕ → Option (List ℕ) → List Located → List Built → Option (Place × List Built)
 path_left first number None attributes values = path_in first number attributes values
 path_left first number (Some name) attributes values = path_from first number name attributes values
-
--- reading the first name of a path
-pub path_first : (start number : ℕ) (remaining after : List Located) (attr : Located) (name : List ℕ) (values : List Built) → remaining ≡ attr ∷ after →
-    key_of attr ≡ Some name → path_left start number None remaining values ≡ path_left start number (Some name) after values
-path_first start number remaining after attr name values first is =
-    ap (λ attributes. path_in start number attributes values) first ∙ ap (option_and_then (λ name. path_from start number name after values)) is
-
--- reading one more name: the one before is that of a set
-pub path_more : (start number : ℕ) (before : List ℕ) (remaining after : List Located) (attr : Located) (name : List ℕ) (values : List Built) (inner : ℕ)
-    (more : List Built) → remaining ≡ attr ∷ after → key_of attr ≡ Some name → set_from start (attribute number before) values ≡ Some (inner, more) →
-    path_left start number (Some before) remaining values ≡ path_left 0 inner (Some name) after more
-path_more start number before remaining after attr name values inner more first is found =
-    ap (λ attributes. path_from start number before attributes values) first
-    ∙ ap (option_and_then (λ (inner : ℕ × List Built). option_and_then (λ next_name. path_from 0 inner.0 next_name after inner.1) (key_of attr))) found
-    ∙ ap (option_and_then (λ next_name. path_from 0 inner next_name after more)) is

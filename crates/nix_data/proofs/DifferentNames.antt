@@ -29,11 +29,6 @@ abbrev pub NamesUsed : {Y : Type 0} → Plain → List Located → List Located 
 NamesUsed set all remaining names = AreNew names (names_in remaining) → IsDistinct bytes_eq (names_in remaining) → IsDistinct bytes_eq (names_in all)
 NamesUsed _ all remaining names = Unit {0}
 
--- before any name has been read
-pub names_none : {Y : Type 0} (own : Plain) (all remaining : List Located) (names : BTreeSet (String Y)) → remaining ≡ all → NamesUsed own all remaining names
-names_none set all remaining names same = λ new differ. subst (λ nodes. IsDistinct bytes_eq (names_in nodes)) same differ
-names_none _ all remaining names same = tt
-
 -- if a disjunction is false, both of its parts are
 neither : (a b : Bool) → (if a then true else b) ≡ false → (a ≡ false) × (b ≡ false)
 neither true b h = absurd (cc)

@@ -1,30 +1,17 @@
 -- Lists that are concatenated one after another, and nodes that mean values one after another.
-use Rattle.std.proofs.Common.{◌≡◌, ◌∙◌, ℕ, suc, ◌+◌, ◌-◌, ◌<◌, true, false, arith, List, [], ◌∷◌, ◌++◌, ap, sym, refl, subst, append_assoc, None}
+use Rattle.std.proofs.Common.{◌≡◌, ◌∙◌, ℕ, suc, ◌+◌, ◌-◌, ◌<◌, true, false, arith, List, [], ◌∷◌, ◌++◌, ap, sym, refl, subst, append_assoc}
 use Rattle.std.proofs.lemmas.List.{append-nil}
 use Rattle.std.proofs.lemmas.Bool.{cond-true, cond-false}
-use Rattle.rnix_kinds.specs.declared.kinds.SyntaxKind.{SyntaxKind}
-use Rattle.rnix_kinds.specs.declared.kinds.SyntaxKind.TheVariants as k
 use Rattle.rnix_green.specs.Tree.{Located}
 use Rattle.rnix_green.specs.Walk.{nodes_in, children_of}
 use Rattle.nix_values.specs.Contents.{Plain, has_parts, Entry}
-use Rattle.nix_data.specs.Meaning.{name_of_kind, unwrapped, parts_of, IsPart, HaveDifferentNames, MeansPart, Means, InOrder, IsHead, MeansFirst}
+use Rattle.nix_data.specs.Meaning.{unwrapped, parts_of, IsPart, HaveDifferentNames, MeansPart, Means, InOrder, IsHead, MeansFirst}
 use Rattle.nix_data.proofs.DifferentNames.{names_of_none}
-
--- a node that is neither an identifier nor a string denotes no name
-pub name_of_other : (kind : SyntaxKind) (e : Located) → (kind ≡ k.NODE_IDENT → ⊥) → (kind ≡ k.NODE_STRING → ⊥) → name_of_kind kind e ≡ None
-name_of_other k.NODE_IDENT e no_ident no_string = absurd (no_ident refl)
-name_of_other k.NODE_STRING e no_ident no_string = absurd (no_string refl)
-name_of_other _ e no_ident no_string = refl
 
 -- if the remaining nodes mean values, these and the values used so far, after a head, are the values of all nodes
 abbrev pub Used : (Located → List Entry → Type 0) → List Located → List Located → Entry → List Entry → List Entry → Type 0
 Used means all remaining head entries rest =
     (used : List Entry) × ((others : List Entry) → InOrder means remaining others → InOrder means all (used ++ others)) × (entries ≡ head ∷ (used ++ rest))
-
--- before any node is used
-pub used_none : (means : Located → List Entry → Type 0) (all remaining : List Located) (head : Entry) (entries rest : List Entry) → remaining ≡ all →
-    entries ≡ head ∷ rest → Used means all remaining head entries rest
-used_none means all remaining head entries rest same is = ([], λ others order. subst (λ nodes. InOrder means nodes others) same order, is)
 
 -- after one more node is used
 pub used_more : (levels depth : ℕ) (own : Plain) (all remaining after : List Located) (child inner : Located) (name : List ℕ) (head : Entry)

@@ -1,6 +1,6 @@
--- Integers that fit in 64 bits, and names in `${` and `}`.
+-- Integers that fit in 64 bits, and strings.
 use Rattle.std.proofs.Common.{◌≡◌, ◌∙◌, ℕ, ◌^◌, ℤ, pos, negsuc, neg_ℤ, Bool, true, false, List, length, ap, sym, refl, Option, Some, None, SFits, w64}
-use Rattle.std.specs.Prelude.{Result, Ok, Err, MatchResult, nat_lt, ◌==◌, ◌&&◌, if◌then◌else◌, option_and_then}
+use Rattle.std.specs.Prelude.{Result, Ok, Err, MatchResult, nat_lt, ◌&&◌, if◌then◌else◌, option_and_then}
 use Rattle.std.specs.Str.{all_ascii_digits}
 use Rattle.std.specs.Str.Parse.{IsNumeral, digits_value, without_leading_sign, signed_digits_value, ParsesSigned}
 use Rattle.std.proofs.lemmas.Bool.{and_parts, and_from}
@@ -10,13 +10,10 @@ use Rattle.rnix_green.specs.Equality.{same_kind}
 use Rattle.rnix_green.specs.Tree.{Located, item_of, text_at}
 use Rattle.rnix_green.proofs.NumberTests.{is_below, below_true}
 use Rattle.nix_values.specs.Contents.{integer}
-use Rattle.rnix_green.specs.Walk.{nodes_in, children_of}
-use Rattle.rnix_base.specs.Select.{child_of}
-use Rattle.rnix.specs.NodeKinds.{is_expr}
 use Rattle.rnix.specs.StringParts.{plain_value}
 use Rattle.nix_data.specs.Misread.{is_altered}
 use Rattle.nix_data.specs.Meaning.{expression_text}
-use Rattle.nix_data.specs.Scalars.{fits, is_numeral, number_in, integer_if, integer_of, dynamic_of}
+use Rattle.nix_data.specs.Scalars.{fits, is_numeral, number_in, integer_if, integer_of}
 
 -- the test of 64 bits holds of the numbers that fit
 fits_true : (number : ℤ) → SFits w64 number → fits number ≡ true
@@ -91,9 +88,3 @@ pub no_text : (e : Located) → same_kind k.NODE_STRING (item_of e).kind ≡ fal
 no_text e other =
     ap (λ b. if is_altered (text_at e) then None else (if b then plain_value e else None)) other
     ∙ never (is_altered (text_at e))
-
--- a computed name is the value of the only node between `${` and `}`
-pub dynamic_text : (e inner : Located) → (length (nodes_in (children_of e)) == 1) ≡ true → child_of is_expr 0 e ≡ Some inner →
-    dynamic_of e ≡ expression_text inner
-dynamic_text e inner one is =
-    ap (λ b. if b then option_and_then expression_text (child_of is_expr 0 e) else None) one ∙ ap (option_and_then expression_text) is

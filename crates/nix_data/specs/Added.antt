@@ -11,7 +11,8 @@ use Rattle.nix_values.specs.Contents.{Plain, list, set, Entry}
 use Rattle.nix_values.specs.Built.{Built, is_set_at, attribute_of}
 use Rattle.nix_values.specs.Preorder.{preorder}
 use Rattle.nix_data.specs.declared.nix_reader.TheConstants.{LEVELS}
-use Rattle.nix_data.specs.Scalars.{scalar_of, key_of}
+use Rattle.nix_data.specs.Meaning.{key_of}
+use Rattle.nix_data.specs.Scalars.{scalar_of}
 use Rattle.nix_data.specs.Misread.{IsReadAlike}
 
 -- where an expression adds its value: outermost; inside the list or set with the first number, in a text that begins after as many values as the second

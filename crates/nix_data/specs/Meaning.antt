@@ -2,7 +2,6 @@
 use Rattle.std.specs.Prelude.{◌≡◌, ℕ, zero, suc, ◌+◌, Bool, true, false, List, [], ◌∷◌, ◌++◌, map, codes, bytes_eq, Option, Some, None, unwrap_or, if◌then◌else◌, ◌<◌, ◌^◌, unsigned_abs}
 use Rattle.std.specs.Fmt.{signed_decimal}
 use Rattle.std.specs.List.{IsDistinct}
-use Rattle.rnix_kinds.specs.declared.kinds.SyntaxKind.{SyntaxKind}
 use Rattle.rnix_kinds.specs.declared.kinds.SyntaxKind.TheVariants as k
 use Rattle.rnix_green.specs.Equality.{same_kind}
 use Rattle.rnix_green.specs.Tree.{Located, item_of, text_at}
@@ -11,6 +10,7 @@ use Rattle.rnix_base.specs.declared.literal.LiteralKind.{LiteralKind}
 use Rattle.rnix_base.specs.declared.literal.LiteralKind.TheVariants as literal
 use Rattle.rnix_base.specs.Literal.{first_literal}
 use Rattle.rnix_base.specs.Select.{HasKind, nodes_of, child_of, token_of}
+use Rattle.rnix.specs.AttrName.{static_name, without_parens}
 use Rattle.rnix.specs.NodeKinds.{is_expr, is_attr}
 use Rattle.rnix.specs.StringParts.{plain_value}
 use Rattle.nix_values.specs.declared.data.Item.{Item}
@@ -54,19 +54,22 @@ HasValue e (text t) = expression_text e ≡ Some t
 HasValue e list = HasKind k.NODE_LIST e
 HasValue e set = HasKind k.NODE_ATTR_SET e × (token_of (same_kind k.TOKEN_REC) e ≡ None)
 
--- the name that a node of a kind denotes
-abbrev pub name_of_kind : SyntaxKind → Located → Option (List ℕ)
-name_of_kind k.NODE_IDENT e = Some (text_at e)
-name_of_kind k.NODE_STRING e = expression_text e
-name_of_kind _ e = None
+-- the expression between `${` and `}` of an attribute, without parentheses around it, or the attribute itself if there is none
+abbrev pub source_inside : Located → Option Located → Located
+source_inside e None = e
+source_inside e (Some inner) = without_parens inner
 
--- the name of an attribute: an identifier, or a string without interpolations
-abbrev pub name_of : Located → Option (List ℕ)
-name_of e = name_of_kind (item_of e).kind e
+-- the node that writes the name of an attribute
+abbrev pub name_source : Located → Located
+name_source e = if same_kind k.NODE_DYNAMIC (item_of e).kind then source_inside e (child_of is_expr 0 e) else e
+
+-- the name that an attribute in a path denotes: that which Nix knows without evaluation, unless Nix changes the string that writes it
+abbrev pub key_of : Located → Option (List ℕ)
+key_of e = if is_altered (text_at (name_source e)) then None else static_name e
 
 -- the name of the only attribute in the list, if there is exactly one
 abbrev pub single_name : List Located → Option (List ℕ)
-single_name (e ∷ []) = name_of e
+single_name (e ∷ []) = key_of e
 single_name attributes = None
 
 -- the name in a path, if the path exists and is a single name

@@ -1,5 +1,5 @@
--- The values of expressions other than lists and sets, and the names of attributes.
-use Rattle.std.specs.Prelude.{ℕ, ◌==◌, nat_lt, ◌^◌, ℤ, pos, negsuc, neg_ℤ, Bool, true, false, ◌&&◌, List, [], ◌∷◌, ◌++◌, length, codes, bytes_eq, Option, Some, None, option_map, option_and_then, if◌then◌else◌}
+-- The values of expressions other than lists and sets.
+use Rattle.std.specs.Prelude.{ℕ, nat_lt, ◌^◌, ℤ, pos, negsuc, neg_ℤ, Bool, true, false, ◌&&◌, List, [], ◌∷◌, ◌++◌, length, codes, bytes_eq, Option, Some, None, option_map, option_and_then, if◌then◌else◌}
 use Rattle.std.specs.Str.{all_ascii_digits}
 use Rattle.std.specs.Str.Parse.{without_leading_sign, signed_digits_value}
 use Rattle.rnix_kinds.specs.declared.kinds.SyntaxKind.{SyntaxKind}
@@ -16,7 +16,6 @@ use Rattle.rnix_base.specs.TokenOperators.{unary_operator, first_operator}
 use Rattle.rnix.specs.NodeKinds.{is_expr}
 use Rattle.nix_values.specs.Contents.{Plain, null, boolean, integer, float, text}
 use Rattle.nix_values.specs.Floats.{float_text}
-use Rattle.nix_data.specs.Misread.{is_quoted}
 use Rattle.nix_data.specs.Meaning.{expression_text}
 
 -- the value of an identifier: only these three are data
@@ -91,22 +90,3 @@ scalar_of_kind _ e = None
 -- the value of an expression that is neither a list nor a set, if it is data
 abbrev pub scalar_of : Located → Option Plain
 scalar_of e = scalar_of_kind (item_of e).kind e
-
--- the name that `${` and `}` denote: the value of the string between them, if that is the only node there
-abbrev pub dynamic_of : Located → Option (List ℕ)
-dynamic_of e = if length (nodes_in (children_of e)) == 1 then option_and_then expression_text (child_of is_expr 0 e) else None
-
--- the name that a string denotes: Nix accepts no string in `''` as a name
-abbrev pub quoted_name : Located → Option (List ℕ)
-quoted_name e = if is_quoted (text_at e) then expression_text e else None
-
--- the name that an attribute of a kind denotes
-abbrev pub key_of_kind : SyntaxKind → Located → Option (List ℕ)
-key_of_kind k.NODE_IDENT e = Some (text_at e)
-key_of_kind k.NODE_STRING e = quoted_name e
-key_of_kind k.NODE_DYNAMIC e = dynamic_of e
-key_of_kind _ e = None
-
--- the name that an attribute in a path denotes: `a`, `"a"` or `${"a"}`
-abbrev pub key_of : Located → Option (List ℕ)
-key_of e = key_of_kind (item_of e).kind e

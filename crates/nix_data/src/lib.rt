@@ -1,6 +1,7 @@
 //! The data of a Nix text, and data as a Nix text.
 #![tactic(auto)]
 
+mod keys;
 mod laws;
 mod meaning;
 mod misread;

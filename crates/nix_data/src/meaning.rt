@@ -7,9 +7,10 @@ ghost use Rattle.rnix_green.specs.Tree.{text_at};
 ghost use Rattle.rnix_base.specs.Literal.{first_literal};
 ghost use Rattle.rnix_base.specs.Select.{HasKind, token_of};
 ghost use Rattle.nix_values.specs.Contents.{set, plain_of, entry_of};
-ghost use Rattle.nix_data.specs.Meaning.{expression_text, unsigned, is_integer, is_float, IsNumber, word_of, HasValue, name_of, path_name, IsPart, unwrapped, IsHead, MeansItems};
+ghost use Rattle.nix_data.specs.Meaning.{expression_text, unsigned, is_integer, is_float, IsNumber, word_of, HasValue, path_name, IsPart, unwrapped, IsHead, MeansItems};
 ghost use Rattle.nix_data.specs.NewNames.{IsNewName};
 
+use crate::keys::key_of;
 use crate::misread::is_altered;
 use nix_values::{Item, Value, is_held};
 use rnix::ast::{
@@ -129,17 +130,6 @@ fn has_value(alloc: Global, node: &SyntaxNode<'_>, value: &Value) -> Result<bool
     }
 }
 
-// Returns the name of an attribute that is an identifier or a string without interpolations.
-fn name_of(alloc: Global, attribute: &SyntaxNode<'_>) -> Result<Option<String>, AllocError>
-    ensures { IfOk result (λ found. option_map string_bytes found ≡ name_of attribute.now) }
-{
-    match attribute.kind() {
-        SyntaxKind::NODE_IDENT => Ok(Some(String::from_str(alloc, attribute.text())?)),
-        SyntaxKind::NODE_STRING => expression_text(alloc, attribute),
-        _ => Ok(None),
-    }
-}
-
 // Returns the name in a path, if the path is a single name.
 fn path_name(alloc: Global, path: Option<Attrpath<'_>>) -> Result<Option<String>, AllocError>
     ensures { IfOk result (λ found. option_map string_bytes found ≡ path_name path.entry) }
@@ -153,7 +143,7 @@ fn path_name(alloc: Global, path: Option<Attrpath<'_>>) -> Result<Option<String>
     };
     match attributes.next() {
         Some(_second) => Ok(None),
-        None => name_of(alloc, attribute.syntax()),
+        None => key_of(alloc, &attribute),
     }
 }
 

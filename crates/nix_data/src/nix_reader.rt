@@ -9,7 +9,8 @@ ghost use Rattle.rnix.specs.NodeKinds.{is_attr};
 ghost use Rattle.rnix.specs.Sums.{attr_node};
 ghost use Rattle.nix_values.specs.Contents.{plain_of, contents};
 ghost use Rattle.nix_data.specs.Added.{path_in, scalar_begun, begun_as, begun, added, HasData, HasNoData};
-ghost use Rattle.nix_data.specs.Scalars.{scalar_of, key_of};
+ghost use Rattle.nix_data.specs.Meaning.{key_of};
+ghost use Rattle.nix_data.specs.Scalars.{scalar_of};
 ghost use Rattle.nix_data.specs.Misread.{is_misread_at, IsReadAlike};
 ghost use Rattle.nix_data.specs.Written.{IsData, IsNoData};
 ghost use Rattle.nix_data.specs.Refusals.{Refuses, ReadsUnless};
@@ -75,7 +76,7 @@ impl Reader {
         ensures { ReadsUnless self.now.is_lossy result (key_of (attr_node attr.now)) (λ name. string_bytes name.text) }
     {
         let node = attr.syntax();
-        let text = match key(self.alloc, node) {
+        let text = match key(self.alloc, attr) {
             Ok(text) => text,
             Err(stop) => self.source(node, stop)?,
         };

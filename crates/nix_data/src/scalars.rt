@@ -1,23 +1,25 @@
 //! Values other than lists and sets, and the names of attributes.
 
-ghost use Rattle.std.specs.Prelude.{◌≡◌, ◌==◌, Some, None, length, IfOk, string_bytes};
+ghost use Rattle.std.specs.Prelude.{◌≡◌, Some, None, IfOk, string_bytes};
 ghost use Rattle.rnix_kinds.specs.declared.kinds.SyntaxKind.TheVariants as k;
 ghost use Rattle.rnix_green.specs.Tree.{item_of, text_at};
 ghost use Rattle.rnix_green.specs.Walk.{nodes_in, children_of};
 ghost use Rattle.rnix_base.specs.declared.literal.LiteralKind.TheVariants as literal;
 ghost use Rattle.rnix_base.specs.Literal.{first_literal};
 ghost use Rattle.rnix_base.specs.Select.{HasKind};
+ghost use Rattle.rnix.specs.Sums.{attr_node};
 ghost use Rattle.nix_values.specs.Contents.{plain_of};
-ghost use Rattle.nix_data.specs.Meaning.{expression_text};
-ghost use Rattle.nix_data.specs.Scalars.{named, integer_of, literal_value, negated_of_kind, operation_of, path_value, scalar_of, dynamic_of, key_of};
+ghost use Rattle.nix_data.specs.Meaning.{expression_text, key_of};
+ghost use Rattle.nix_data.specs.Scalars.{named, integer_of, literal_value, negated_of_kind, operation_of, path_value, scalar_of};
 ghost use Rattle.nix_data.specs.Refusals.{Refuses, Reads};
 ghost use Rattle.nix_data.specs.declared.scalars.Stop.TheVariants.{Memory};
 
+use crate::keys::{key_of, name_source};
 use crate::misread::{is_altered, is_quoted};
 use crate::no_data::{NoData, Reason};
 use nix_values::{Value, float_of};
 use rnix::ast::{
-    AstNode, AstToken, Dynamic, Float, Integer, InterpolPart, Literal, LiteralKind, Str, UnaryOp,
+    AstNode, AstToken, Attr, Float, Integer, InterpolPart, Literal, LiteralKind, Str, UnaryOp,
     UnaryOpKind, Uri,
 };
 use rnix::{SyntaxKind, SyntaxNode, TextRange};
@@ -226,43 +228,28 @@ pub fn scalar(alloc: Global, node: &SyntaxNode<'_>) -> Result<Value, Stop>
     }
 }
 
-// Returns whether a node has exactly one child node.
-fn has_one_child(node: &SyntaxNode<'_>) -> bool
-    ensures { result ≡ (length (nodes_in (children_of node.now)) == 1) }
-{
-    let mut children = node.children();
-    children.next().is_some() && children.next().is_none()
-}
-
-// Returns the text of a computed name, if it is a single string.
-#[tactic(auto, using(crate::proofs::ScalarsLemmas::no_text))]
-fn dynamic(alloc: Global, node: &SyntaxNode<'_>) -> Result<String, Stop>
-    ensures name { IfOk result (λ text. dynamic_of node.now ≡ Some (string_bytes text)) }
-    ensures refused { Refuses result (HasKind k.NODE_DYNAMIC node.now → dynamic_of node.now ≡ None) }
-{
-    let Some(name) = Dynamic::cast(node.clone()) else {
-        return Err(evaluated(node));
-    };
-    if !has_one_child(node) {
-        return Err(evaluated(node));
+// Returns why an attribute has no name that can be read.
+fn no_key(attr: &Attr<'_>) -> Stop {
+    let source = name_source(attr.syntax());
+    if is_altered(source.text()) {
+        return altered(&source);
     }
-    match name.expr() {
-        Some(string) if Str::can_cast(string.syntax().kind()) => {
-            string_value(alloc, string.syntax())
-        }
-        _ => Err(evaluated(node)),
+    match attr {
+        Attr::Str(string) if is_quoted(source.text()) => no_data(
+            Reason::Evaluated(SyntaxKind::NODE_INTERPOL),
+            interpolation(string),
+        ),
+        Attr::Str(_) => no_data(Reason::IndentedName, source.text_range()),
+        Attr::Ident(_) | Attr::Dynamic(_) => evaluated(attr.syntax()),
     }
 }
 
 /// Returns the name that an attribute in a path denotes.
-pub fn key(alloc: Global, node: &SyntaxNode<'_>) -> Result<String, Stop>
-    ensures { Reads result (key_of node.now) (λ text. string_bytes text) }
+pub fn key(alloc: Global, attr: &Attr<'_>) -> Result<String, Stop>
+    ensures { Reads result (key_of (attr_node attr.now)) (λ text. string_bytes text) }
 {
-    match node.kind() {
-        SyntaxKind::NODE_IDENT => Ok(String::from_str(alloc, node.text())?),
-        SyntaxKind::NODE_DYNAMIC => dynamic(alloc, node),
-        SyntaxKind::NODE_STRING if is_quoted(node.text()) => string_value(alloc, node),
-        SyntaxKind::NODE_STRING => Err(no_data(Reason::IndentedName, node.text_range())),
-        _ => Err(evaluated(node)),
+    match key_of(alloc, attr)? {
+        Some(name) => Ok(name),
+        None => Err(no_key(attr)),
     }
 }

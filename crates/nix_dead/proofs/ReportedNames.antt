@@ -46,17 +46,6 @@ some_reported is_json file text root old new names some same order written = rec
   status_is = status_some (dead_in root) (λ none. some (same_length root names same ∙ none));
 }
 
--- a text with errors is reported
-pub faulty_reported : (is_json : Bool) (file text : List ℕ) (old new : Option (List ℕ)) (tree : Tree) (faults : List Fault) →
-    IsParsed (tokens_of text) tree faults → ¬ (faults ≡ []) → Keeps old new → IsReported is_json file text old new 2
-faulty_reported is_json file text old new tree faults read some kept = record {
-  tree = tree;
-  faults = faults;
-  read = read;
-  faulty = λ _. (refl, kept);
-  faultless = λ none. absurd (some none);
-}
-
 -- a text without errors is reported
 pub text_reported : (is_json : Bool) (file text : List ℕ) (old new : Option (List ℕ)) (tree : Tree) (faults : List Fault) (status : ℕ) →
     IsParsed (tokens_of text) tree faults → faults ≡ [] → AreReported is_json file text record { tree = tree; number = 0 } old new status →

@@ -282,7 +282,3 @@ next_is_token e next h =
         is_token = ap (λ x. (item x next.number).is_node) h.0 ∙ token.is_token;
       },
     )
-
--- the same, if there is a next token
-pub next_found : (e : Located) (found : Option Located) (next : Located) → IsNextToken e found → found ≡ Some next → (next.tree ≡ e.tree) × IsTokenAt next
-next_found e found next h is = next_is_token e next (subst (IsNextToken e) is h)

@@ -43,13 +43,6 @@ first_names errors n are =
     (sym (list_all-append (λ e. is_repeated_name (fault_of e)) (take n errors) (drop n errors))
     ∙ ap (list_all (λ e. is_repeated_name (fault_of e))) (take-append-drop n errors) ∙ are)).0
 
--- an error about a repeated name is shown at its range
-pub name_location : (root : Located) (fault : Fault) (own : Option TextRange) (other range : TextRange) → is_repeated_name fault ≡ true →
-    option_map bounds_of own ≡ range_in fault → range ≡ unwrap_or own other → bounds_of range ≡ location_of root fault
-name_location root (duplicated_args extent name) None other range is own_is range_is = cc
-name_location root (duplicated_args extent name) (Some own) other range is own_is range_is = ap bounds_of range_is ∙ ap (range_or 0) own_is
-name_location root fault own other range is own_is range_is = cc
-
 -- such an error has a range
 has_range : (root : Located) (e : ParseError) → is_repeated_name (fault_of e) ≡ true → (range : TextRange) × (bounds_of range ≡ location_of root (fault_of e))
 has_range root (DuplicatedArgs range name) is = (range, refl)

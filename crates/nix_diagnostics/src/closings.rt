@@ -5,7 +5,7 @@ use crate::near::{first_part, indentation, line_start, text_before};
 use crate::replacement::Replacement;
 use crate::unexpected::UnexpectedToken;
 use SyntaxKind::*;
-use rnix::{SyntaxKind, TextRange};
+use rnix::{SyntaxKind, SyntaxToken, TextRange};
 
 // Returns the closing bracket for an opening one, after white space where that is usual.
 fn closing_bracket(opener: SyntaxKind, is_spaced: bool) -> Option<&'static str> {
@@ -30,6 +30,41 @@ fn next_keyword(opener: SyntaxKind) -> Option<&'static str> {
     }
 }
 
+// Returns whether a token of the kind may begin an expression.
+fn begins_expression(kind: SyntaxKind) -> bool {
+    matches!(
+        kind,
+        TOKEN_ASSERT
+            | TOKEN_CUR_POS
+            | TOKEN_FLOAT
+            | TOKEN_IDENT
+            | TOKEN_IF
+            | TOKEN_INTEGER
+            | TOKEN_INVERT
+            | TOKEN_L_BRACE
+            | TOKEN_L_BRACK
+            | TOKEN_L_PAREN
+            | TOKEN_LET
+            | TOKEN_PATH_ABS
+            | TOKEN_PATH_HOME
+            | TOKEN_PATH_REL
+            | TOKEN_PATH_SEARCH
+            | TOKEN_REC
+            | TOKEN_STRING_START
+            | TOKEN_SUB
+            | TOKEN_URI
+            | TOKEN_WITH
+    )
+}
+
+// Writes a keyword before an unexpected token, if this begins the expression that follows the keyword.
+fn keyword_before(keyword: &'static str, token: &SyntaxToken<'_>) -> Option<Replacement> {
+    if !begins_expression(token.kind()) {
+        return None;
+    }
+    Some(Replacement::insertion(token.text_range().start(), keyword))
+}
+
 // Returns the closing bracket at the end of a text.
 fn last_bracket(opener: SyntaxKind) -> Option<&'static str> {
     match opener {
@@ -45,10 +80,10 @@ fn closing_before(
     unexpected: &UnexpectedToken<'_>,
     extra: Option<TextRange>,
 ) -> Option<Replacement> {
-    let range = unexpected.token.text_range();
     if let Some(keyword) = next_keyword(opener) {
-        return Some(Replacement::insertion(range.start(), keyword));
+        return keyword_before(keyword, &unexpected.token);
     }
+    let range = unexpected.token.text_range();
     let is_bracket = matches!(
         unexpected.token.kind(),
         TOKEN_R_BRACE | TOKEN_R_BRACK | TOKEN_R_PAREN

@@ -25,9 +25,6 @@ new_step (Added line) diff = omega arith
 pub olds_counted : (diff : List DiffLine) → length (old_lines diff) ≡ count_by is_old diff
 olds_counted diff = is_count_by (λ d. length (old_lines d)) is_old refl old_step diff
 
-pub news_counted : (diff : List DiffLine) → length (new_lines diff) ≡ count_by is_new diff
-news_counted diff = is_count_by (λ d. length (new_lines d)) is_new refl new_step diff
-
 -- the lines up to an index are those up to an earlier one and those between the two
 pub lines_split : (diff : List DiffLine) (first end : ℕ) → first ≤ end → take end diff ≡ take first diff ++ lines_between first end diff
 lines_split diff first end h = ap (λ n. take n diff) {x = end} {y = first + (end - first)} (omega arith) ∙ take-add first (end - first) diff
@@ -53,13 +50,6 @@ counts_within diff end counts h = (
   omega (arith, h.olds, count_by-le-length is_old (take end diff), length-take end diff),
   omega (arith, h.news, count_by-le-length is_new (take end diff), length-take end diff),
 )
-
--- so are the sums of counts
-pub counts_fit : (diff : List DiffLine) (first end : ℕ) (before more : Counts) → first ≤ end → AreCounts (take first diff) before
-    → AreCounts (lines_between first end diff) more → (before.olds + more.olds ≤ end) × (before.news + more.news ≤ end)
-counts_fit diff first end before more h a b =
-    let sum : Counts = record { olds = before.olds + more.olds; news = before.news + more.news } in
-    counts_within diff end sum (counts_summed diff first end before more sum h a b refl refl)
 
 -- the first lines are common up to the end of the common lines at the beginning
 pub front_common : (count : ℕ) (lines : List DiffLine) → count ≤ prefix_len is_common lines → AreCommon (take count lines)

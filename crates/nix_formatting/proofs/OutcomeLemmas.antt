@@ -15,13 +15,6 @@ not_both : (text : List ℕ) → IsWithErrors text → IsWithoutErrors text → 
 not_both text faulty faultless =
     faulty.some (one_reading (tokens_of text) faulty.tree faultless.0 faulty.faults [] faulty.read faultless.1).1
 
--- the result for a text with errors is `HasErrors`
-has_errors_exactly : (text : List ℕ) (result : Formatting) → IsOutcome text result → IsWithErrors text → result ≡ formatting.HasErrors
-has_errors_exactly text (formatting.Formatted made) (inl right) faulty = absurd (not_both text faulty (right.tree.before, right.tree.old_read))
-has_errors_exactly text (formatting.Formatted made) (inr right) faulty = absurd (not_both text faulty (right.before, right.old_read))
-has_errors_exactly text formatting.HasErrors right faulty = refl
-has_errors_exactly text formatting.Refused right faulty = absurd (not_both text faulty right)
-
 -- a text that is parsed without errors has none
 pub faultless : (text : List ℕ) (tree : Tree) (faults : List Fault) → IsParsed (tokens_of text) tree faults → faults ≡ [] → IsWithoutErrors text
 faultless text tree faults parsed none = (tree, subst (IsReading (tokens_of text) tree) none parsed.reading)

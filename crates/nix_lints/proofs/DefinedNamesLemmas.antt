@@ -64,8 +64,3 @@ pub path_begins : (attributes : Attributes) (owner : ℕ) (set : Option ℕ) (at
     whole ≡ attrs → whole ≡ e ∷ after → AddsSome attributes attributes (names_from owner false set e after) (names_of owner set attrs)
 path_begins attributes owner set attrs whole after e is first =
     adds_begun attributes (names_from owner false set e after) (names_of owner set attrs) (ap (names_of owner set) (sym first ∙ is))
-
--- a path without names adds none
-pub path_empty : (attributes : Attributes) (owner : ℕ) (set : Option ℕ) (attrs whole : List Located) →
-    whole ≡ attrs → whole ≡ [] → AddsNames attributes attributes (names_of owner set attrs)
-path_empty attributes owner set attrs whole is none = adds_none attributes (names_of owner set attrs) (ap (names_of owner set) (sym is ∙ none))

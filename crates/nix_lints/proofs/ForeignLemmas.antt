@@ -36,10 +36,3 @@ pub boundary_next : (text : List ℕ) (i : ℕ) (next_inside : Bool) → IsUtf8 
     next_inside ≡ false → IsCharBoundary text (i + 1)
 boundary_next text i next_inside is_utf8 within is outside =
     IsCharBoundary-after_ascii text i is_utf8 within (blank_is_ascii (get_or text i 0) (sym is ∙ outside))
-
--- one more element
-pub element_next : (old new all : List Run) (before after : List Spot) (spot : Spot) → old ++ flat_map runs_at before ≡ all → before ≡ spot ∷ after →
-    new ≡ old ++ runs_at spot → new ++ flat_map runs_at after ≡ all
-element_next old new all before after spot so_far first added =
-    ap (λ runs. runs ++ flat_map runs_at after) added ∙ append_assoc old (runs_at spot) (flat_map runs_at after)
-    ∙ ap (λ spots. old ++ flat_map runs_at spots) (sym first) ∙ so_far

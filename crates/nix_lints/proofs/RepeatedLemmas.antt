@@ -39,18 +39,6 @@ adds_both old mid new names more one two = record {
       ∙ ap (λ found. map repetition_of old.repeated.items ++ found) (sym (repetitions_among_later known names more));
 }
 
--- the repetition that one more name is, if it is one
-pub one_repeated : (known : Known) (own : Name) (old new : List Repeated) (found : Option Repeated) → new ≡ old ++ option_to_list found →
-    map repetition_of (option_to_list found) ≡ repetition (earlier known own) own.site →
-    map repetition_of new ≡ map repetition_of old ++ repetitions_after known (own ∷ [])
-one_repeated known own old new found is are =
-    ap (map repetition_of) is ∙ map_after old (option_to_list found)
-    ∙ ap (λ more. map repetition_of old ++ more) (are ∙ sym (append-nil (repetition (earlier known own) own.site)))
-  where
-    map_after : (xs ys : List Repeated) → map repetition_of (xs ++ ys) ≡ map repetition_of xs ++ map repetition_of ys
-    map_after [] ys = refl
-    map_after (x ∷ xs) ys = ap (λ found. repetition_of x ∷ found) (map_after xs ys)
-
 -- some of all names have been added, and others remain
 pub record AddsSome (old new : Attributes) (remaining all : List Name) : Type 0 where
   pub done : List Name
@@ -74,10 +62,3 @@ adds_next old mid new remaining names after all some first more = record {
 pub adds_all : (old new : Attributes) (remaining all : List Name) → AddsSome old new remaining all → remaining ≡ [] → AddsNames old new all
 adds_all old new remaining all some none =
     subst (AddsNames old new) (sym (append-nil some.done) ∙ ap (λ rest. some.done ++ rest) (sym none) ∙ some.whole) some.are
-
--- after all names, the repetitions are those of the text
-pub found_all : (old new : Attributes) (all : List Name) → IsEmpty old → AddsNames old new all →
-    map repetition_of new.repeated.items ≡ repetitions_after nothing all
-found_all old new all empty are =
-    are.repeated nothing (empty_table old.attributes old.firsts empty.attributes empty.firsts)
-    ∙ ap (λ (found : List Repeated). map repetition_of found ++ repetitions_after nothing all) empty.repeated

@@ -58,45 +58,12 @@ first_at firsts key home text is_home is_text =
     ap (λ n. get_by (λ (k : Key). ordering_then (nat_cmp n k.0) (slice_cmp nat_cmp (cow_str_bytes key.1) (cow_str_bytes k.1))) firsts) is_home
     ∙ ap (λ bytes. get_by (λ (k : Key). ordering_then (nat_cmp home k.0) (slice_cmp nat_cmp bytes (cow_str_bytes k.1))) firsts) is_text
 
--- the names inside an open name get another attribute
-pub inner_updated : (attributes new : BTreeMap ℕ ℕ) (is_open : Bool) (inner attribute : ℕ) → is_open ≡ true →
-    ((query : ℕ) → get nat_cmp new query ≡ cond (is_eq (nat_cmp inner query)) (Some attribute) (get nat_cmp attributes query)) → (owner : ℕ) →
-    attribute_by new owner ≡ (if is_open && (inner == owner) then attribute else attribute_by attributes owner)
-inner_updated attributes new is_open inner attribute does updates owner =
-    ap (λ o. unwrap_or o owner)
-    (updates owner ∙ ap (λ e. cond e (Some attribute) (get nat_cmp attributes owner)) (unsigned_tied inner owner))
-    ∙ chosen (inner == owner)
-    ∙ ap (λ o. if o && (inner == owner) then attribute else attribute_by attributes owner) (sym does)
-  where
-    chosen : (b : Bool) → unwrap_or (cond b (Some attribute) (get nat_cmp attributes owner)) owner
-        ≡ (if true && b then attribute else unwrap_or (get nat_cmp attributes owner) owner)
-    chosen true = refl
-    chosen false = refl
-
--- the names inside a closed name keep theirs
-pub inner_kept : (attributes : BTreeMap ℕ ℕ) (is_open : Bool) (inner attribute : ℕ) → is_open ≡ false → (owner : ℕ) →
-    attribute_by attributes owner ≡ (if is_open && (inner == owner) then attribute else attribute_by attributes owner)
-inner_kept attributes is_open inner attribute does owner =
-    ap (λ o. if o && (inner == owner) then attribute else attribute_by attributes owner) (sym does)
-
 -- empty maps contain what is known before the first name
 pub empty_table : (attributes : BTreeMap ℕ ℕ) (firsts : FirstNames) → attributes.entries ≡ [] → firsts.entries ≡ [] → IsTable nothing attributes firsts
 empty_table attributes firsts no_attribute no_first = record {
   attributes_are = λ start. ap (λ es. unwrap_or (lookup (is_at (nat_cmp start)) es) start) no_attribute;
   firsts_are = λ home text. ap (λ es. option_map site_of (lookup (is_at (compare_key home text)) es)) no_first;
 }
-
--- adding a name that must be evaluated
-pub unknown_added : (known : Known) (attributes : BTreeMap ℕ ℕ) (firsts : FirstNames) (own : Site) →
-    IsTable known attributes firsts → IsTable (with_name known (named None own)) attributes firsts
-unknown_added known attributes firsts own table = record {
-  attributes_are = λ owner. table.attributes_are owner ∙ sym (same_both (own.is_open && (own.inner == owner)) (known.attribute owner));
-  firsts_are = λ home text. table.firsts_are home text ∙ sym (none (known.attribute own.owner == home) (known.first home text));
-}
-  where
-    none : (b : Bool) (first : Option Site) → option_or first (if b && false then Some own else None) ≡ first
-    none true first = or_none first
-    none false first = or_none first
 
 -- a first name stays among those that are known
 first_kept : (b : Bool) (new old : Option NameSite) (first : Option Site) (name_site : NameSite) → new ≡ cond b (Some name_site) old

@@ -19,11 +19,6 @@ pub record AreRemaining (root : Located) (remaining : ℕ) (P : List Located →
   pub ends_are : ends ≡ counts_after root rest
   pub same : still_open root remaining rest ≡ still_open root remaining nodes
 
--- if a node has ended, the list of ends is not empty
-pub some_ended : (remaining : ℕ) (ends : List ℕ) → has_ended remaining ends ≡ true → 0 < length ends
-some_ended remaining [] ended = absurd (false≢true ended)
-some_ended remaining (end ∷ ends) ended = omega arith
-
 -- whether a node has ended depends on the last count alone
 last_ended : (remaining : ℕ) (ends : List ℕ) (end : ℕ) → has_ended remaining (ends ++ end ∷ []) ≡ nat_lt remaining end
 last_ended remaining ends end =

@@ -8,13 +8,6 @@ use Rattle.nix_scopes.specs.Resolving.{Numbers, number_by, shadowed_by, outside_
 use Rattle.{nix_scopes.specs.declared.symbols.Scope.Scope, std.proofs.Common.length-append}
 use Rattle.nix_scopes.proofs.NumberLemmas.{or_none, some_same, none_below, number_kept, number_bound, get_kept, get_pushed, number_binds}
 
--- adding a number keeps the earlier ones
-pub longer_pushed : (shadowed : List (Option ℕ)) (o : Option ℕ) → IsLonger shadowed (shadowed ++ o ∷ [])
-longer_pushed shadowed o = record {
-  longer = omega (arith, length_push shadowed o);
-  same = λ n l. get_or_append_left shadowed (o ∷ []) None n l;
-}
-
 -- `IsLonger` is reflexive
 pub longer_same : (shadowed : List (Option ℕ)) → IsLonger shadowed shadowed
 longer_same shadowed = record { longer = omega arith; same = λ n l. refl }

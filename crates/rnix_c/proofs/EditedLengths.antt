@@ -6,15 +6,6 @@ use Rattle.rnix_green.specs.{Forest.{text_of}, Range.{Extent}, Tree.{Tree, fores
 use Rattle.rnix_grammar.specs.{Fault.{Fault}, Parsed.{IsParsed}}
 use Rattle.rnix_reparse.{specs.{EditedRange.{edited}, EditableRanges.{between, IsEditable}}, proofs.OwnTexts.{own_text}}
 
--- the length of an edited text: the new bytes replace those in the range
-pub length_edited : (text new : List ℕ) (start end : ℕ) → IsEditable text start end →
-    length (edited (between start end) new text) ≡ length text - (end - start) + length new
-length_edited text new start end h =
-    let front = length-take-le start text h.1.start.0 in
-    let whole = length-append (take start text) (new ++ drop end text) in
-    let back = length-append new (drop end text) in
-    omega (arith, h.0, h.1.end.0, front, whole, back, length-drop end text)
-
 -- equal edits of equal texts have equal results
 pub same_edited : (range other : Extent) (new new_too text text_too : List ℕ) → range ≡ other → new ≡ new_too → text ≡ text_too →
     edited range new text ≡ edited other new_too text_too

@@ -15,10 +15,6 @@ first_of : (t : Tree) (n count : ℕ) (spot : Spot) (spots : List Spot) → spot
 first_of t n zero spot spots is = cc is
 first_of t n (suc count) spot spots is = let same : spot ≡ spot_at t n = cc is in ap (λ (s : Spot). s.1.number) same
 
-pub has_number : (t : Tree) (n : ℕ) (spot : Spot) (spots all : List Spot) → all ≡ spot ∷ spots → AreFrom t n all → spot.1.number ≡ n
-has_number t n spot spots all is from =
-    let here : spot ∷ spots ≡ map (spot_at t) (counted n from.count) = cc (is, from.are) in first_of t n from.count spot spots here
-
 -- the others have the numbers from the next one on
 others_of : (t : Tree) (n count : ℕ) (spot : Spot) (spots : List Spot) → spot ∷ spots ≡ map (spot_at t) (counted n count) → AreFrom t (n + 1) spots
 others_of t n zero spot spots is = absurd (cc is)

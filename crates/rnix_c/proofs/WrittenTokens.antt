@@ -63,7 +63,3 @@ module _ (text : List ℕ) (kind : SyntaxKind) (token : List ℕ) (remaining : L
     some = All-tail HasText (kind, token) remaining h.some;
     ahead = omega (arith, h.ahead, All-head HasText (kind, token) remaining h.some);
   }
-
--- if no token remains, all were counted
-pub all_counted : (text : List ℕ) (count start : ℕ) → IsAt text [] count start → count ≡ length (tokens_written text)
-all_counted text count start h = omega (arith, h.counted)

@@ -1,5 +1,5 @@
 -- The outcome of a call for the parse of a text after an edit.
-use Rattle.std.specs.Prelude.{◌≡◌, ◌⊎◌, ◌≤◌, ◌^◌, ℕ, ℤ, List, length, IsUtf8}
+use Rattle.std.specs.Prelude.{◌≡◌, ◌⊎◌, ◌<◌, ◌≤◌, ◌^◌, ℕ, ℤ, List, length, IsUtf8}
 use Rattle.rnix_green.specs.Tree.{Tree}
 use Rattle.rnix_grammar.specs.Fault.{Fault}
 use Rattle.rnix_grammar.specs.Parsed.{IsParsed}
@@ -14,10 +14,16 @@ IsNoEdit text start end replacement answer =
     ((answer ≡ none_such) × ¬ IsEditable text start end)
     ⊎ ((answer ≡ too_long) × IsEditable text start end × (2 ^ 32 ≤ length (edited (between start end) replacement text)))
 
--- why there is no parse of the text after an edit: the old text or the new bytes cannot be read, the edit cannot be made, or memory is refused
+-- a text can be read: it is UTF-8, and short enough
+abbrev pub IsReadable : List ℕ → Type 0
+IsReadable text = IsUtf8 text × (length text < 2 ^ 32)
+
+-- why there is no parse of the text after an edit: the old text or the new bytes cannot be read, or memory is refused; or both can be read, but the edit
+-- cannot be made
 abbrev pub IsEditRefused : List ℕ → ℕ → ℕ → List ℕ → ℤ → Type 0
 IsEditRefused text start end replacement answer =
-    (IsRefused text answer ⊎ IsRefused replacement answer) ⊎ IsNoEdit text start end replacement answer
+    (IsRefused text answer ⊎ IsRefused replacement answer)
+    ⊎ (IsReadable text × IsReadable replacement × IsNoEdit text start end replacement answer)
 
 -- the call is refused and the arrays are unchanged, or the statement holds for the tree and the errors of the text after the edit
 abbrev pub AnswersEdit : List ℕ → ℕ → ℕ → List ℕ → ℤ → Type 0 → (Tree → List Fault → Type 0) → Type 0

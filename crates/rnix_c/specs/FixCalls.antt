@@ -25,14 +25,14 @@ WritesFix text errors answer was is old new =
 abbrev pub RefusedOr : ℤ → RnixFix → RnixFix → List ℕ → List ℕ → Type 0 → Type 0
 RefusedOr answer was is old new other = ((answer ≡ no_memory) × (is ≡ was) × (new ≡ old)) ⊎ other
 
--- no diagnostic has the number, or a fix of the diagnostic with the number is written
+-- no diagnostic has the number, or a fix of the text is written, or there is none and nothing is written
 abbrev pub WritesFixAt : List ℕ → Tree → List Fault → ℕ → ℤ → RnixFix → RnixFix → List ℕ → List ℕ → Type 0
 WritesFixAt text tree faults number answer was is old new =
     (all : List Diagnostic) × AreSaid tree faults all
     × (((length all ≤ number) × (answer ≡ none_such) × (is ≡ was) × (new ≡ old))
     ⊎ ((number < length all) × WritesFix text (length faults) answer was is old new))
 
--- memory is refused and nothing is written, or a fix of a diagnostic of the text is written
+-- memory is refused and nothing is written, or the same holds of the parse of the text
 abbrev pub WritesFixIn : List ℕ → ℕ → ℤ → RnixFix → RnixFix → List ℕ → List ℕ → Type 0
 WritesFixIn text number answer was is old new =
     RefusedOr answer was is old new

@@ -21,12 +21,6 @@ use Rattle.rnix_reparse.proofs.SplicedReadings.{parsed_spliced}
 ends_in_text : (t : Tree) (n : ℕ) → n < length (items_of t) → (item t n).end ≤ length (text_of (forest_of t))
 ends_in_text t n l = (let h = in_text 0 0 None (forest_of t) n (omega (arith, elements_in_all t)) in omega (arith, h.high))
 
--- a character boundary of a text, inside an element, is one of the element's text
-pub boundary_in_node : (t : Tree) (n a : ℕ) → n < length (items_of t) → IsCharBoundary (text_of (forest_of t)) a → (item t n).start ≤ a → a ≤ (item t n).end
-    → IsCharBoundary (text_at record { tree = t; number = n }) (a - (item t n).start)
-boundary_in_node t n a l h low high =
-    boundary_inside (text_of (forest_of t)) (item t n).start (item t n).end a low high (ends_in_text t n l) h
-
 -- the tree with the new node is the parse of the edited text
 pub parsed_edit : (t u v : Tree) (n : ℕ) (range : Extent) (replacement own new : List ℕ) → n < length (items_of t)
     → own ≡ text_at record { tree = t; number = n }
