@@ -2,6 +2,7 @@ pub mod WordLemmas
 pub mod CollectedLists
 pub mod PathStepLemmas
 pub mod SameNamesLemmas
+pub mod OpenNameLemmas
 pub mod PathLemmas
 pub mod UndefinedLemmas
 pub mod DefinedLemmas

@@ -9,6 +9,7 @@ use Rattle.rnix_base.specs.declared.operators.BinOpKind.{BinOpKind}
 use Rattle.rnix_base.specs.declared.operators.BinOpKind.TheVariants as op
 use Rattle.rnix_base.specs.TokenOperators.{first_operator, binary_operator}
 use Rattle.rnix_base.specs.Select.{child_of, tokens_in}
+use Rattle.rnix.specs.AttrName.{without_parens}
 use Rattle.rnix.specs.NodeKinds.{is_expr}
 
 -- whether an operand of `//` with this kind may be the one into which a path leads: a set, or another operation
@@ -17,11 +18,25 @@ is_candidate k.NODE_ATTR_SET = true
 is_candidate k.NODE_BIN_OP = true
 is_candidate _ = false
 
+-- whether an expression of a kind may write out attributes, which then come before those of the left operand: a set, another operation, or an expression
+-- whose value is that of an expression inside it
+abbrev pub may_define : SyntaxKind → Bool
+may_define k.NODE_IF_ELSE = true
+may_define k.NODE_LET_IN = true
+may_define k.NODE_LEGACY_LET = true
+may_define k.NODE_WITH = true
+may_define k.NODE_ASSERT = true
+may_define kind = is_candidate kind
+
+-- whether a right operand, without the parentheses around it, may write out attributes
+abbrev pub comes_first : Located → Bool
+comes_first right = may_define (item_of (without_parens right)).kind
+
 -- the one of two operands into which a path may lead, if it cannot lead into the other
 abbrev pub only_candidate : Located → Located → Option Located
 only_candidate left right =
-    if is_candidate (item_of left).kind then (if is_candidate (item_of right).kind then None else Some left)
-    else (if is_candidate (item_of right).kind then Some right else None)
+    if is_candidate (item_of left).kind then (if comes_first right then None else Some left)
+    else (if comes_first right then Some right else None)
 
 -- the same, for operands that may be missing
 abbrev pub only_candidate_if : Option Located → Option Located → Option Located

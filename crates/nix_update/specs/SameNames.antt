@@ -1,11 +1,13 @@
 -- When the names in a text mean the same in another text that lacks one of its entries.
-use Rattle.std.specs.Prelude.{◌≡◌, ℕ, ◌-◌, nat_lt, nat_le, ◌||◌, Bool, List, Option, Some, None, filter, slice_get, if◌then◌else◌}
-use Rattle.std.specs.List.{AllZip}
+use Rattle.std.specs.Prelude.{◌≡◌, ℕ, ◌-◌, nat_lt, nat_le, ◌||◌, ◌&&◌, bytes_eq, Bool, false, List, Option, Some, None, filter, slice_get, if◌then◌else◌}
+use Rattle.std.specs.List.{All, AllZip, list_any}
 use Rattle.std.specs.Cow.{cow_str_bytes}
+use Rattle.rnix_green.specs.Range.{Extent}
 use Rattle.rnix_green.specs.Tree.{Located, item_of}
 use Rattle.nix_scopes.specs.declared.resolution.Binding.{Binding}
 use Rattle.nix_scopes.specs.declared.resolution.Reference.{Reference}
 use Rattle.nix_scopes.specs.declared.resolution.Resolution.{Resolution}
+use Rattle.nix_scopes.specs.Alike.{IsResolution}
 use Rattle.nix_scopes.specs.Bound.{bindings_of, references_of}
 use Rattle.nix_update.specs.declared.meaning.Change.{Change}
 
@@ -46,3 +48,22 @@ pub record IsSameReference (change : Change) (longer shorter : Resolution) (refe
 abbrev pub HaveSameMeaning : Change → Resolution → Resolution → Type 0
 HaveSameMeaning change longer shorter =
     AllZip (IsSameReference change longer shorter) (filter (is_outside change) (references_of longer)) (references_of shorter)
+
+-- whether a reference begins outside a range
+abbrev pub begins_outside : Extent → Reference → Bool
+begins_outside range reference = nat_lt (start_of reference.node) range.start || nat_le range.end (start_of reference.node)
+
+-- whether a reference outside a range may come from a `with`, and has one of these names
+abbrev pub is_open_among : Extent → List (List ℕ) → Reference → Bool
+is_open_among range names reference =
+    begins_outside range reference && (reference.is_open && list_any (λ name. bytes_eq name (cow_str_bytes reference.text)) names)
+
+-- no reference in a text that begins outside a range and may come from a `with` has one of these names
+pub record HasNoOpenName (root : Located) (range : Extent) (names : List (List ℕ)) : Type 0 where
+  pub found : Resolution
+  pub is_found : IsResolution root found
+  pub none : All (λ (reference : Reference). is_open_among range names reference ≡ false) (references_of found)
+
+-- the empty range at the start of a text: all references begin outside it
+abbrev pub no_range : Extent
+no_range = record { start = 0; end = 0 }

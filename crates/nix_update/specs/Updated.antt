@@ -1,9 +1,9 @@
 -- The result of an update of a text.
-use Rattle.std.specs.Prelude.{◌≡◌, ◌⊎◌, ℕ, ◌-◌, nat_eq, nat_lt, ◌&&◌, not, Bool, true, false, if◌then◌else◌, List, [], ◌∷◌, ◌++◌, codes, length, drop, flat_map, find, slice_get, Option, Some, None, string_bytes}
+use Rattle.std.specs.Prelude.{◌≡◌, ◌⊎◌, ◌≤◌, ℕ, ◌-◌, nat_eq, nat_lt, ◌&&◌, not, Bool, true, false, if◌then◌else◌, List, [], ◌∷◌, ◌++◌, codes, length, drop, flat_map, find, slice_get, Option, Some, None, string_bytes}
 use Rattle.rnix_kinds.specs.declared.kinds.SyntaxKind.{SyntaxKind}
 use Rattle.rnix_kinds.specs.declared.kinds.SyntaxKind.TheVariants as k
 use Rattle.rnix_kinds.specs.Lexical.Tokens.{tokens_of}
-use Rattle.rnix_green.specs.Tree.{Tree, Located, item_of}
+use Rattle.rnix_green.specs.Tree.{Tree, Located, item_of, extent_of}
 use Rattle.rnix_green.specs.Equality.{same_kind}
 use Rattle.rnix_green.specs.Walk.{nodes_in, elements_of, children_of}
 use Rattle.rnix_base.specs.Select.{child_of}
@@ -13,6 +13,7 @@ use Rattle.rnix.specs.ParseResult.{Reading, root_of}
 use Rattle.rnix_edit.specs.Edited.{root_in, IsRemoved, IsInsertedAfter, IsInsertedInside}
 use Rattle.nix_scopes.specs.declared.resolution.Resolution.{Resolution}
 use Rattle.nix_scopes.specs.Alike.{IsResolution}
+use Rattle.nix_lints.specs.Repeated.{repeated_in}
 use Rattle.nix_update.specs.declared.meaning.Change.{Change}
 use Rattle.nix_update.specs.declared.path_match.PathMatch.TheVariants as matches
 use Rattle.nix_update.specs.declared.definitions.Definition.{Definition}
@@ -29,7 +30,7 @@ use Rattle.nix_update.specs.NewValue.{IsValueOf, IsSetTo}
 use Rattle.nix_update.specs.PathMatches.{is_removable}
 use Rattle.nix_update.specs.Path.{IsPath}
 use Rattle.nix_update.specs.PathSteps.{ArePathSteps, definitions_in}
-use Rattle.nix_update.specs.SameNames.{HaveSameMeaning}
+use Rattle.nix_update.specs.SameNames.{HaveSameMeaning, HasNoOpenName, no_range}
 
 -- the value of an entry is set
 pub record IsValueSet (form : Form) (value text : List ℕ) (root entry : Located) (made : List ℕ) : Type 0 where
@@ -56,11 +57,14 @@ pub record IsMeaningKeptWithout (text : List ℕ) (root entry : Located) (made :
   pub others_found : IsResolution (root_of read) others
   pub alike : HaveSameMeaning (change_of entry text made) names others
 
--- an entry that defines the attribute, or a part of it, is removed; unless this is forced, names mean the same without it
-pub record IsEntryRemoved (is_forced : Bool) (text : List ℕ) (root : Located) (definition : Definition) (made : List ℕ) : Type 0 where
+-- an entry that defines the attribute with these names, or a part of it, is removed; unless this is forced, names mean the same without it, and none outside
+-- it that may come from a `with` is one of those that lead from the entry's set to the attribute
+pub record IsEntryRemoved (is_forced : Bool) (names : List (List ℕ)) (text : List ℕ) (root : Located) (definition : Definition) (made : List ℕ)
+    : Type 0 where
   pub removable : is_removable definition.path_match ≡ true
   pub removed : IsRemoved text root definition.entry made
   pub kept : is_forced ≡ false → IsMeaningKeptWithout text root definition.entry made
+  pub unopened : is_forced ≡ false → HasNoOpenName root (extent_of definition.entry) (drop definition.at names)
 
 -- the last entry among these nodes, or else another node
 abbrev pub last_among : Option Located → List Located → Option Located
@@ -135,20 +139,22 @@ pub record IsRest (starts path : List ℕ) (at : ℕ) (rest : List ℕ) : Type 0
   pub start_is : slice_get starts at ≡ Some start
   pub rest_is : rest ≡ drop start path
 
--- a set gets an entry with the remaining names of the path; unless this is forced, names mean the same with it
-pub record IsAddedTo (is_forced : Bool) (form : Form) (value path starts : List ℕ) (target : PathStep) (text : List ℕ) (root : Located) (made : List ℕ)
-    : Type 0 where
-  pub names : List ℕ
-  pub are_rest : IsRest starts path target.at names
-  pub added : IsEntryAdded form value names text root target.node made
+-- a set gets an entry with the remaining names of the path; unless this is forced, names mean the same with it, and none that may come from a `with` is one
+-- of those of the entry
+pub record IsAddedTo (is_forced : Bool) (form : Form) (value path starts : List ℕ) (names : List (List ℕ)) (target : PathStep) (text : List ℕ)
+    (root : Located) (made : List ℕ) : Type 0 where
+  pub rest : List ℕ
+  pub are_rest : IsRest starts path target.at rest
+  pub added : IsEntryAdded form value rest text root target.node made
   pub kept : is_forced ≡ false → IsMeaningKeptWith text root target.node made
+  pub unopened : is_forced ≡ false → HasNoOpenName root no_range (drop target.at names)
 
 -- this happens to the only set to which the largest number of names lead
-pub record IsAdded (is_forced : Bool) (form : Form) (value path starts : List ℕ) (steps : List PathStep) (text : List ℕ) (root : Located) (made : List ℕ)
-    : Type 0 where
+pub record IsAdded (is_forced : Bool) (form : Form) (value path starts : List ℕ) (names : List (List ℕ)) (steps : List PathStep) (text : List ℕ)
+    (root : Located) (made : List ℕ) : Type 0 where
   pub target : PathStep
   pub only : insertion_sets_in steps ≡ target ∷ []
-  pub added : IsAddedTo is_forced form value path starts target text root made
+  pub added : IsAddedTo is_forced form value path starts names target text root made
 
 -- the only entry that defines the attribute, among those of sets or of a `let`, defines all of it, and its value is set
 pub record IsOnlySet (of_let : Bool) (update : Update) (names : List (List ℕ)) (steps : List PathStep) (text : List ℕ) (root : Located) (made : List ℕ)
@@ -158,10 +164,10 @@ pub record IsOnlySet (of_let : Bool) (update : Update) (names : List (List ℕ))
   pub is_set : IsEntrySet update.form update.value.now text root definition made
 
 -- the result of an action on the attribute that a single entry defines
-abbrev pub IsDefinitionUpdated : Action → Update → List ℕ → Located → Definition → List ℕ → Type 0
-IsDefinitionUpdated action.Remove update text root definition made = IsEntryRemoved update.is_forced text root definition made
-IsDefinitionUpdated action.Set update text root definition made = IsEntrySet update.form update.value.now text root definition made
-IsDefinitionUpdated action.Add update text root definition made = IsEntrySet update.form update.value.now text root definition made
+abbrev pub IsDefinitionUpdated : Action → Update → List (List ℕ) → List ℕ → Located → Definition → List ℕ → Type 0
+IsDefinitionUpdated action.Remove update names text root definition made = IsEntryRemoved update.is_forced names text root definition made
+IsDefinitionUpdated action.Set update names text root definition made = IsEntrySet update.form update.value.now text root definition made
+IsDefinitionUpdated action.Add update names text root definition made = IsEntrySet update.form update.value.now text root definition made
 
 -- P holds for the new text, if there is one
 abbrev pub IfMade : (List ℕ → Type 0) → Attempt → Type 0
@@ -189,7 +195,7 @@ outcome_of (attempt.Refused refused) = outcome.Refused refused
 abbrev pub IsUndefinedUpdated : Update → List (List ℕ) → List ℕ → List ℕ → List PathStep → List ℕ → Located → Outcome → Type 0
 IsUndefinedUpdated update names path starts steps text root (outcome.Updated made) =
     (update.action ≡ action.Add)
-    × IsAdded update.is_forced update.form update.value.now path starts steps text root (string_bytes made)
+    × IsAdded update.is_forced update.form update.value.now path starts names steps text root (string_bytes made)
 IsUndefinedUpdated update names path starts steps text root (outcome.SetInLet made offset) =
     (update.action ≡ action.Set) × IsOnlySet true update names steps text root (string_bytes made)
 IsUndefinedUpdated update names path starts steps text root (outcome.Refused refused) = Unit {0}
@@ -198,7 +204,7 @@ IsUndefinedUpdated update names path starts steps text root (outcome.Refused ref
 pub record IsSingleUpdated (update : Update) (names : List (List ℕ)) (steps : List PathStep) (text : List ℕ) (root : Located) (made : List ℕ) : Type 0 where
   pub definition : Definition
   pub only : definitions_in names false steps ≡ definition ∷ []
-  pub is_updated : IsDefinitionUpdated update.action update text root definition made
+  pub is_updated : IsDefinitionUpdated update.action update names text root definition made
 
 -- the result of an update where no entry of a set defines the attribute
 abbrev pub IsNoneUpdated : Update → List (List ℕ) → List ℕ → List ℕ → List PathStep → List ℕ → Located → Outcome → Type 0
@@ -213,6 +219,18 @@ IsOutcome update names path starts steps text root (outcome.SetInLet made offset
     IsNoneUpdated update names path starts steps text root (outcome.SetInLet made offset)
 IsOutcome update names path starts steps text root (outcome.Refused refused) = Unit {0}
 
+-- P holds for the new text, if there is one
+abbrev pub IfNew : (List ℕ → Type 0) → Outcome → Type 0
+IfNew P (outcome.Updated made) = P (string_bytes made)
+IfNew P (outcome.SetInLet made offset) = P (string_bytes made)
+IfNew P (outcome.Refused refused) = Unit {0}
+
+-- a new text has no more names that define an attribute again than the old one, given the root of the old one
+pub record HasNoMoreRepeated (root : Located) (made : List ℕ) : Type 0 where
+  pub read : Reading
+  pub is_read : IsParsed (tokens_of made) read.tree read.faults
+  pub fewer : length (repeated_in (root_of read)) ≤ length (repeated_in root)
+
 -- an outcome is that of the update of a text, which is parsed without errors
 pub record IsOutcomeOf (update : Update) (text : List ℕ) (made : Outcome) : Type 0 where
   pub names : List (List ℕ)
@@ -223,6 +241,7 @@ pub record IsOutcomeOf (update : Update) (text : List ℕ) (made : Outcome) : Ty
   pub steps : List PathStep
   pub are_steps : ArePathSteps names (root_in tree) steps
   pub is_outcome : IsOutcome update names update.path.now starts steps text (root_in tree) made
+  pub repeated : IfNew (HasNoMoreRepeated (root_in tree)) made
 
 -- a new text is the result of an update
 abbrev pub IsUpdated : Update → List ℕ → Outcome → Type 0

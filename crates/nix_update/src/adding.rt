@@ -1,6 +1,7 @@
 //! Adding an attribute.
 
-ghost use Rattle.std.specs.Prelude.{◌≡◌, false, string_bytes, IfOk, IfSome};
+ghost use Rattle.std.specs.Prelude.{◌≡◌, false, drop, map, string_bytes, IfOk, IfSome};
+ghost use Rattle.nix_update.specs.SameNames.{HasNoOpenName, no_range};
 ghost use Rattle.nix_update.specs.Updated.{IfMade, IsRest, IsEntryAdded, IsAddedTo, IsAdded, IsMeaningKeptWith};
 
 use crate::change::add_value;
@@ -53,7 +54,8 @@ fn accept_added(
     made: String,
 ) -> Result<Attempt, AllocError>
     ensures { IfOk result (IfMade (λ text. (text ≡ string_bytes made)
-        × (is_forced ≡ false → IsMeaningKeptWith site.entry.text.now site.entry.root.now site.entry.set.now text))) }
+        × (is_forced ≡ false → IsMeaningKeptWith site.entry.text.now site.entry.root.now site.entry.set.now text)
+        × (is_forced ≡ false → HasNoOpenName site.entry.root.now no_range (drop site.entry.at (map string_bytes site.entry.names.now))))) }
 {
     if is_forced {
         return Ok(Attempt::Made(made));
@@ -75,7 +77,7 @@ fn add_to(
     target: &PathStep<'_>,
 ) -> Result<Attempt, AllocError>
     ensures { IfOk result (IfMade (IsAddedTo update.entry.is_forced update.entry.form update.entry.value.now path.now.text.now path.now.starts.items
-        target.now text.now root.now)) }
+        (map string_bytes path.now.names.items) target.now text.now root.now)) }
 {
     let Some(names) = rest_at(path, target.at) else {
         return Ok(Attempt::Refused(refuse(Reason::NotAPath)));
@@ -105,7 +107,7 @@ pub fn add(
     update: Update<'_>,
 ) -> Result<Attempt, AllocError>
     ensures { IfOk result (IfMade (IsAdded update.entry.is_forced update.entry.form update.entry.value.now path.now.text.now path.now.starts.items
-        steps.now text.now root.now)) }
+        (map string_bytes path.now.names.items) steps.now text.now root.now)) }
 {
     let sets = insertion_sets(alloc, steps)?;
     let Some(target) = sets.first() else {

@@ -1,6 +1,11 @@
 //! Checks that other names keep their meaning when an attribute is added or removed.
 
-ghost use Rattle.std.specs.Prelude.{◌≡◌, None, IfOk, IfNone};
+ghost use Rattle.std.specs.Prelude.{◌≡◌, None, drop, map, string_bytes, bytes_eq, IfOk, IfNone};
+ghost use Rattle.std.specs.List.{list_any};
+ghost use Rattle.std.specs.Cow.{cow_str_bytes};
+ghost use Rattle.rnix_green.specs.Range.{bounds_of};
+ghost use Rattle.rnix_green.specs.Tree.{extent_of};
+ghost use Rattle.nix_update.specs.SameNames.{begins_outside, is_open_among, HasNoOpenName, no_range};
 ghost use Rattle.nix_update.specs.Updated.{set_at, entry_at, change_of, IsMeaningKeptWith, IsMeaningKeptWithout};
 
 use crate::change::last_entry;
@@ -8,9 +13,9 @@ use crate::meaning::{Change, first_difference};
 use crate::outcome::{Reason, Refused, refuse_at};
 use crate::path_match::match_entry;
 use crate::steps::PathStep;
-use nix_scopes::resolve;
+use nix_scopes::{Reference, resolve};
 use rnix::ast::{AstNode, AttrSet};
-use rnix::{Root, SyntaxKind, SyntaxNode};
+use rnix::{Root, SyntaxKind, SyntaxNode, TextRange};
 use std::alloc::{AllocError, Global};
 
 /// The set in which an attribute is added or removed.
@@ -53,6 +58,16 @@ fn is_recursive(node: &SyntaxNode<'_>) -> bool {
 // Returns whether an expression along the path is a set, and no name of a `let` leads to it.
 fn is_set(step: &PathStep<'_>) -> bool {
     step.node.kind() == SyntaxKind::NODE_ATTR_SET && !step.in_let
+}
+
+// Returns the first `rec` set along the path in which the next name of the path is special.
+fn special_set<'s, 't>(site: Site<'s, 't>) -> Option<&'s SyntaxNode<'t>> {
+    for step in site.steps {
+        if is_set(step) && is_special_at(site.names, step.at) && is_recursive(&step.node) {
+            return Some(&step.node);
+        }
+    }
+    None
 }
 
 // Returns the first `rec` set along the path that is the value of an attribute.
@@ -112,14 +127,10 @@ fn set_refusal(alloc: Global, site: Site<'_, '_>) -> Result<Option<Refused>, All
     if let Some(start) = split_set(alloc, site)? {
         return Ok(Some(refuse_at(Reason::SplitSet, start)));
     }
-    if !is_recursive(site.set) {
-        return Ok(None);
+    match special_set(site) {
+        Some(set) => Ok(Some(refuse_at(Reason::SpecialName, set.text_range().start()))),
+        None => Ok(None),
     }
-    let start = site.set.text_range().start();
-    if is_special_at(site.names, site.at) {
-        return Ok(Some(refuse_at(Reason::SpecialName, start)));
-    }
-    Ok(None)
 }
 
 // Returns the first set inside a node that begins at an offset.
@@ -197,6 +208,77 @@ fn difference_without(
     }
 }
 
+// Returns whether a text is one of some names.
+fn is_among(names: &[String], text: &str) -> bool
+    ensures { result ≡ list_any (λ name. bytes_eq name text.now) (map string_bytes names.now) }
+{
+    for name in names {
+        if name.as_str() == text {
+            return true;
+        }
+    }
+    false
+}
+
+// Returns whether a reference begins outside a range.
+fn begins_outside(range: TextRange, reference: &Reference<'_>) -> bool
+    ensures { result ≡ begins_outside (bounds_of range) reference.now }
+{
+    let start = reference.node.text_range().start();
+    start < range.start() || range.end() <= start
+}
+
+// Returns whether a reference outside a range may come from a `with`, and has one of some names.
+fn is_open_among(range: TextRange, names: &[String], reference: &Reference<'_>) -> bool
+    ensures { result ≡ is_open_among (bounds_of range) (map string_bytes names.now) reference.now }
+{
+    begins_outside(range, reference)
+        && reference.is_open
+        && is_among(names, reference.text.as_str())
+}
+
+// Returns the offset of the first name outside a range that may come from a `with` and is one of some names.
+fn open_name(
+    alloc: Global,
+    root: &SyntaxNode<'_>,
+    range: TextRange,
+    names: &[String],
+) -> Result<Option<usize>, AllocError>
+    ensures { IfOk result (λ offset. IfNone offset (HasNoOpenName root.now (bounds_of range) (map string_bytes names.now))) }
+{
+    let found = resolve(alloc, root)?;
+    for reference in found.references() {
+        if is_open_among(range, names, reference) {
+            return Ok(Some(reference.node.text_range().start()));
+        }
+    }
+    Ok(None)
+}
+
+// Returns the names from an index on.
+fn rest_of(names: &[String], at: usize) -> &[String]
+    ensures { result.now ≡ drop at names.now }
+{
+    match names.get(at..) {
+        Some(rest) => rest,
+        None => &[],
+    }
+}
+
+// Returns the refusal of a change if a name outside a range that may come from a `with` is one of those of the attribute in the set of the change.
+fn open_name_refusal(
+    alloc: Global,
+    site: Site<'_, '_>,
+    range: TextRange,
+) -> Result<Option<Refused>, AllocError>
+    ensures { IfOk result (λ refused. IfNone refused
+        (HasNoOpenName site.entry.root.now (bounds_of range) (drop site.entry.at (map string_bytes site.entry.names.now)))) }
+{
+    let names = rest_of(site.names, site.at);
+    let offset = open_name(alloc, site.root, range, names)?;
+    Ok(meaning_refusal(offset))
+}
+
 // Returns the refusal for a name that would mean something else, if there is one.
 fn meaning_refusal(offset: Option<usize>) -> Option<Refused>
     ensures { IfNone result (offset ≡ None) }
@@ -213,9 +295,14 @@ pub fn addition_refusal(
     site: Site<'_, '_>,
     made: &str,
 ) -> Result<Option<Refused>, AllocError>
-    ensures { IfOk result (λ refused. IfNone refused (IsMeaningKeptWith site.entry.text.now site.entry.root.now site.entry.set.now made.now)) }
+    ensures kept { IfOk result (λ refused. IfNone refused (IsMeaningKeptWith site.entry.text.now site.entry.root.now site.entry.set.now made.now)) }
+    ensures unopened { IfOk result (λ refused. IfNone refused
+        (HasNoOpenName site.entry.root.now no_range (drop site.entry.at (map string_bytes site.entry.names.now)))) }
 {
     if let Some(refused) = set_refusal(alloc, site)? {
+        return Ok(Some(refused));
+    }
+    if let Some(refused) = open_name_refusal(alloc, site, TextRange::empty(0))? {
         return Ok(Some(refused));
     }
     let offset = difference_with(alloc, site.text, site.root, site.set, made)?;
@@ -229,9 +316,14 @@ pub fn removal_refusal(
     entry: &SyntaxNode<'_>,
     made: &str,
 ) -> Result<Option<Refused>, AllocError>
-    ensures { IfOk result (λ refused. IfNone refused (IsMeaningKeptWithout site.entry.text.now site.entry.root.now entry.now made.now)) }
+    ensures kept { IfOk result (λ refused. IfNone refused (IsMeaningKeptWithout site.entry.text.now site.entry.root.now entry.now made.now)) }
+    ensures unopened { IfOk result (λ refused. IfNone refused
+        (HasNoOpenName site.entry.root.now (extent_of entry.now) (drop site.entry.at (map string_bytes site.entry.names.now)))) }
 {
     if let Some(refused) = set_refusal(alloc, site)? {
+        return Ok(Some(refused));
+    }
+    if let Some(refused) = open_name_refusal(alloc, site, entry.text_range())? {
         return Ok(Some(refused));
     }
     let offset = difference_without(alloc, site.text, site.root, entry, made)?;

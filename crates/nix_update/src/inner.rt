@@ -6,9 +6,9 @@ ghost use Rattle.rnix_base.specs.Select.{child_of, tokens_in};
 ghost use Rattle.rnix_base.specs.TokenOperators.{first_operator, binary_operator};
 ghost use Rattle.rnix_green.specs.Walk.{children_of};
 ghost use Rattle.rnix.specs.NodeKinds.{is_expr};
-ghost use Rattle.nix_update.specs.Inner.{is_candidate, only_candidate, operand, inner};
+ghost use Rattle.nix_update.specs.Inner.{is_candidate, may_define, comes_first, only_candidate, operand, inner};
 
-use rnix::ast::{AstNode, BinOp, BinOpKind, Expr};
+use rnix::ast::{AstNode, BinOp, BinOpKind, Expr, without_parens};
 use rnix::{SyntaxKind, SyntaxNode};
 use rnix_base::child_at;
 
@@ -20,27 +20,45 @@ pub fn expr_at<'t>(node: &SyntaxNode<'t>, number: usize) -> Option<SyntaxNode<'t
     Some(expr.syntax().clone())
 }
 
-// Returns whether PATH may lead into an operand of `//`: a set or another operation.
-fn is_candidate(operand: &SyntaxNode<'_>) -> bool
-    ensures { result ≡ is_candidate (item_of operand.now).kind }
+// Returns whether PATH may lead into an operand of `//` of a kind: a set or another operation.
+fn is_candidate(kind: SyntaxKind) -> bool
+    ensures { result ≡ is_candidate kind }
 {
-    matches!(
-        operand.kind(),
-        SyntaxKind::NODE_ATTR_SET | SyntaxKind::NODE_BIN_OP
-    )
+    matches!(kind, SyntaxKind::NODE_ATTR_SET | SyntaxKind::NODE_BIN_OP)
 }
 
-// Returns the operand that is a set or another operation, if just one of the two is.
+// Returns whether an expression of a kind may write out attributes.
+fn may_define(kind: SyntaxKind) -> bool
+    ensures { result ≡ may_define kind }
+{
+    match kind {
+        SyntaxKind::NODE_IF_ELSE
+        | SyntaxKind::NODE_LET_IN
+        | SyntaxKind::NODE_LEGACY_LET
+        | SyntaxKind::NODE_WITH
+        | SyntaxKind::NODE_ASSERT => true,
+        kind => is_candidate(kind),
+    }
+}
+
+// Returns whether a right operand may write out attributes, which come before those of the left one.
+fn comes_first(right: &SyntaxNode<'_>) -> bool
+    ensures { result ≡ comes_first right.now }
+{
+    may_define(without_parens(right).kind())
+}
+
+// Returns the operand into which PATH may lead, if it may lead into just one of the two.
 fn only_candidate<'t>(left: SyntaxNode<'t>, right: SyntaxNode<'t>) -> Option<SyntaxNode<'t>>
     ensures { result ≡ only_candidate left.entry right.entry }
 {
-    if is_candidate(&left) {
-        if is_candidate(&right) {
+    if is_candidate(left.kind()) {
+        if comes_first(&right) {
             None
         } else {
             Some(left)
         }
-    } else if is_candidate(&right) {
+    } else if comes_first(&right) {
         Some(right)
     } else {
         None

@@ -32,6 +32,8 @@ pub enum Reason {
     SpecialName,
     /// Other entries add to the `rec` set in which the attribute would be added or removed.
     SplitSet,
+    /// The new text would define an attribute again that cannot be defined again.
+    Repeated,
     /// The edit is refused.
     Edit(Refusal),
 }
@@ -114,6 +116,7 @@ impl Reason {
             Reason::SplitSet => {
                 "other entries add to this `rec` set, so names in them may change their meaning: --force changes the text all the same"
             }
+            Reason::Repeated => "with the change, an attribute would be defined twice",
             Reason::Edit(Refusal::NotInText) => "this is not in the text",
             Reason::Edit(Refusal::HasErrors) => "the new text would not be Nix",
             Reason::Edit(Refusal::ReadOtherwise) => {

@@ -1,6 +1,8 @@
 //! Removing an entry.
 
-ghost use Rattle.std.specs.Prelude.{◌≡◌, false, string_bytes, IfOk};
+ghost use Rattle.std.specs.Prelude.{◌≡◌, false, drop, map, string_bytes, IfOk};
+ghost use Rattle.rnix_green.specs.Tree.{extent_of};
+ghost use Rattle.nix_update.specs.SameNames.{HasNoOpenName};
 ghost use Rattle.nix_update.specs.Updated.{IfMade, IsEntryRemoved, IsMeaningKeptWithout};
 
 use crate::definitions::Definition;
@@ -22,7 +24,8 @@ fn accept_removed(
     made: String,
 ) -> Result<Attempt, AllocError>
     ensures { IfOk result (IfMade (λ text. (text ≡ string_bytes made)
-        × (is_forced ≡ false → IsMeaningKeptWithout site.entry.text.now site.entry.root.now entry.now text))) }
+        × (is_forced ≡ false → IsMeaningKeptWithout site.entry.text.now site.entry.root.now entry.now text)
+        × (is_forced ≡ false → HasNoOpenName site.entry.root.now (extent_of entry.now) (drop site.entry.at (map string_bytes site.entry.names.now))))) }
 {
     if is_forced {
         return Ok(Attempt::Made(made));
@@ -43,7 +46,7 @@ pub fn remove_entry(
     update: Update<'_>,
     definition: &Definition<'_>,
 ) -> Result<Attempt, AllocError>
-    ensures { IfOk result (IfMade (IsEntryRemoved update.entry.is_forced text.now root.now definition.now)) }
+    ensures { IfOk result (IfMade (IsEntryRemoved update.entry.is_forced (map string_bytes names.now) text.now root.now definition.now)) }
 {
     let entry = &definition.entry;
     if !definition.path_match.is_removable() {

@@ -1,7 +1,8 @@
 //! Texts in which an attribute is set, added or removed.
 
-ghost use Rattle.std.specs.Prelude.{◌≡◌, true, map, string_bytes, IfOk};
-ghost use Rattle.nix_update.specs.Updated.{IfMade, IfUpdated, IfSetInLet, outcome_of, IsOnlySet, IsDefinitionUpdated, IsUndefinedUpdated, IsOutcome, IsUpdated};
+ghost use Rattle.std.specs.Prelude.{◌≡◌, true, length, map, string_bytes, IfOk, IsTrue};
+ghost use Rattle.nix_lints.specs.Repeated.{repeated_in};
+ghost use Rattle.nix_update.specs.Updated.{IfMade, IfNew, HasNoMoreRepeated, IfUpdated, IfSetInLet, outcome_of, IsOnlySet, IsDefinitionUpdated, IsUndefinedUpdated, IsOutcome, IsUpdated};
 
 use crate::adding::add;
 use crate::definitions::{Definition, definitions_of};
@@ -13,6 +14,7 @@ use crate::removing::remove_entry;
 use crate::request::{Action, Update};
 use crate::setting::set_entry;
 use crate::steps::{PathStep, path_steps};
+use nix_lints::repeated_attributes;
 use rnix::{Root, SyntaxNode};
 use std::alloc::{AllocError, Global};
 
@@ -66,7 +68,7 @@ fn update_defined(
     update: Update<'_>,
     definition: &Definition<'_>,
 ) -> Result<Attempt, AllocError>
-    ensures { IfOk result (IfMade (IsDefinitionUpdated update.entry.action update.entry text.now root.now definition.now)) }
+    ensures { IfOk result (IfMade (IsDefinitionUpdated update.entry.action update.entry (map string_bytes names.now) text.now root.now definition.now)) }
 {
     match update.action {
         Action::Remove => remove_entry(alloc, text, root, names, steps, update, definition),
@@ -139,6 +141,40 @@ fn update_in(
     }
 }
 
+// Returns the number of names in a text that define an attribute again.
+fn count_repeated(alloc: Global, root: &SyntaxNode<'_>) -> Result<usize, AllocError>
+    ensures { IfOk result (λ count. count ≡ length (repeated_in root.now)) }
+{
+    let found = repeated_attributes(alloc, root)?;
+    Ok(found.len())
+}
+
+// Returns whether a new text has no more names that define an attribute again than the old one.
+fn is_as_defined(alloc: Global, root: &SyntaxNode<'_>, made: &str) -> Result<bool, AllocError>
+    ensures { IfOk result (λ is. IsTrue is → HasNoMoreRepeated root.now made.now) }
+{
+    let read = Root::parse(alloc, made)?;
+    let count = count_repeated(alloc, &read.syntax())?;
+    Ok(count <= count_repeated(alloc, root)?)
+}
+
+// Returns an outcome, or the refusal if its text defines an attribute again that cannot be defined again.
+fn accept(alloc: Global, root: &SyntaxNode<'_>, outcome: Outcome) -> Result<Outcome, AllocError>
+    ensures { IfOk result (λ accepted. IfNew (λ made. (accepted ≡ outcome) × HasNoMoreRepeated root.now made) accepted) }
+{
+    let is_good = match &outcome {
+        Outcome::Updated(made) | Outcome::SetInLet(made, _) => {
+            is_as_defined(alloc, root, made.as_str())?
+        }
+        Outcome::Refused(_) => true,
+    };
+    if is_good {
+        Ok(outcome)
+    } else {
+        Ok(Outcome::Refused(refuse(Reason::Repeated)))
+    }
+}
+
 /// Returns the updated text, or the refusal.
 pub fn updated(alloc: Global, text: &str, update: Update<'_>) -> Result<Outcome, AllocError>
     ensures { IfOk result (IsUpdated update.entry text.now) }
@@ -153,5 +189,6 @@ pub fn updated(alloc: Global, text: &str, update: Update<'_>) -> Result<Outcome,
     }
     let root = read.syntax();
     let steps = path_steps(alloc, &root, &path.names)?;
-    update_in(alloc, text, &root, &path, &steps, update)
+    let outcome = update_in(alloc, text, &root, &path, &steps, update)?;
+    accept(alloc, &root, outcome)
 }

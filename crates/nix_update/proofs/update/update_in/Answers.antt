@@ -1,6 +1,6 @@
 use Rattle.std.proofs.Common.{rules, ◌≡◌, ◌≤◌, [], ◌∷◌, length, false, map, string_bytes, Some, ap, subst, sym, ◌∙◌}
 use Rattle.std.{proofs.lemmas.Option.{slice_get_past}, specs.Prelude.slice_get}
-use Rattle.nix_update.specs.PathSteps.{definitions_in}
+use Rattle.nix_update.specs.{PathSteps.{definitions_in}, Updated.{IfMade, IsDefinitionUpdated}}
 use Rattle.nix_update.proofs.{CollectedLists.{none_at_all, only_one}, UndefinedLemmas.undefined_updated, DefinedLemmas.defined_updated}
 use Rattle.nix_update.proofs.update.update_in.Goals as goal
 
@@ -26,4 +26,6 @@ returns c =
     ap (λ names. definitions_in (map string_bytes names) false c.args.steps.now) (sym c.deref.ensures.value) ∙ sym c.in_ok-definitions.ensures
     ∙ only_one definitions definition first (slice_get_past definitions 1 one) in
     defined_updated c.args.update names c.args.path.now.text.now c.args.path.now.starts.items c.args.steps.now c.args.text.now c.args.root.now
-    definition c.in_ok-attempt-in-None.attempt c.outcome_of.result only c.outcome_of.ensures c.in_ok-attempt-in-None.ensures
+    definition c.in_ok-attempt-in-None.attempt c.outcome_of.result only c.outcome_of.ensures
+    (subst (λ names. IfMade (IsDefinitionUpdated c.args.update.action c.args.update (map string_bytes names) c.args.text.now c.args.root.now definition)
+    c.in_ok-attempt-in-None.attempt) c.deref-in-None.ensures.value c.in_ok-attempt-in-None.ensures)

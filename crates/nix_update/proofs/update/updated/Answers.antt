@@ -1,5 +1,5 @@
 use Rattle.std.proofs.Common.{◌≡◌, ◌≤◌, [], length, map, string_bytes, ap, subst, sym, ◌∙◌, arith}
-use Rattle.std.{proofs.lemmas.List.{nil_from_length}, specs.Prelude.{IfOk, IfSome}}
+use Rattle.std.{proofs.lemmas.List.{nil_from_length}, specs.Prelude.{IfSome}}
 use Rattle.{rnix_grammar.specs.Fault.fault_of, nix_update.specs.{Path.IsPath, PathSteps.ArePathSteps, Updated.IsOutcome}, nix_update.proofs.UpdatedLemmas.whole_update}
 use Rattle.nix_update.proofs.update.updated.Goals as goal
 
@@ -16,6 +16,7 @@ returns c =
     c.in_ok-path.ensures.is_path)
     c.in_ok-read.ensures none c.syntax-root.ensures
     (subst (λ names. ArePathSteps (map string_bytes names) c.syntax-root.result c.in_ok-steps.steps.items) c.deref.ensures.value c.in_ok-steps.ensures)
-    c.update_in.result
-    (subst (λ steps. IfOk c.update_in.result (IsOutcome update (map string_bytes path.names.items) path.text.now path.starts.items steps c.args.text.now
-    c.syntax-root.result)) c.deref-2.ensures.value c.update_in.ensures)
+    c.accept.result c.in_ok-outcome.outcome
+    (subst (λ steps. IsOutcome update (map string_bytes path.names.items) path.text.now path.starts.items steps c.args.text.now c.syntax-root.result
+    c.in_ok-outcome.outcome) c.deref-2.ensures.value c.in_ok-outcome.ensures)
+    c.accept.ensures
