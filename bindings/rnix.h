@@ -308,7 +308,7 @@ struct rnix_reference {
     uint64_t binding;      /* the number of the binding, in the innermost scope that binds the name; RNIX_NO_NUMBER if no scope does */
     uint32_t kind;         /* the kind of the name: RNIX_NODE_IDENT, RNIX_NODE_STRING or RNIX_NODE_DYNAMIC */
     uint32_t is_inherited; /* 1 for a name of an `inherit` without a source */
-    uint32_t is_open;      /* 1 if it has no binding and is in the body of a `with` */
+    uint32_t is_open;      /* 1 if it has no binding, is in the body of a `with`, and Nix itself does not bind it */
 };
 
 /*

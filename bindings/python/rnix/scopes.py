@@ -32,7 +32,7 @@ class Reference:
     is_inherited: bool
     """Whether it is a name of an `inherit` without a source."""
     is_open: bool
-    """Whether it has no binding and is in the body of a `with`."""
+    """Whether it has no binding and is in the body of a `with`, and Nix itself does not bind it."""
 
 
 @dataclass(frozen=True)

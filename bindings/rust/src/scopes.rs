@@ -31,7 +31,7 @@ pub struct Reference {
     pub binding: Option<usize>,
     /// Whether it is a name of an `inherit` without a source.
     pub is_inherited: bool,
-    /// Whether it has no binding and is in the body of a `with`.
+    /// Whether it has no binding and is in the body of a `with`, and Nix itself does not bind it.
     pub is_open: bool,
 }
 

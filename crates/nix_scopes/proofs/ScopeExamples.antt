@@ -1,6 +1,6 @@
 -- What the names of small texts refer to, by computation.
 use Rattle.{std.proofs.Common.{◌≡◌, ℕ, List, [], ◌∷◌, map, Bool, true, false, Option, Some, None, refl, codes}, rnix_green.specs.Forest.{Forest, empty, leaf}}
-use Rattle.{rnix_green.specs.{Forest.{node, join}, Tree.Located}, nix_scopes.specs.Scopes.resolved_in}
+use Rattle.{rnix_green.specs.{Forest.{node, join}, Tree.Located}, nix_scopes.specs.{Globals.is_global, Scopes.resolved_in}}
 use Rattle.rnix_base.specs.{Escapes.values, Value.with_line_feeds}
 use Rattle.rnix_kinds.specs.declared.kinds.SyntaxKind.TheVariants as k
 
@@ -67,7 +67,13 @@ bound_first : referred below_with ≡ None ∷ Some 0 ∷ None ∷ []
 bound_first = refl
 
 open_last : open_names below_with ≡ false ∷ false ∷ true ∷ []
+unfolding is_global
 open_last = refl
+
+-- Nix itself binds `map`, and nothing binds `mat`
+bound_by_nix : (is_global (codes "map") ≡ true) × (is_global (codes "mat") ≡ false)
+unfolding is_global
+bound_by_nix = (refl, refl)
 
 -- an entry whose name is a string in `"`
 abbrev quoted_entry : List ℕ → Forest → Forest → Forest

@@ -8,6 +8,7 @@ use Rattle.rnix_green.specs.Equality.{same_kind}
 use Rattle.rnix_green.specs.Tree.{Located, item_of}
 use Rattle.rnix_green.specs.Walk.{nodes_in, elements_of, ancestors_of}
 use Rattle.rnix_green.specs.Relatives.{parent_of}
+use Rattle.nix_scopes.specs.Globals.{is_global}
 use Rattle.nix_scopes.specs.Names.{Named}
 use Rattle.nix_scopes.specs.Binders.{names_bound, is_scope}
 use Rattle.nix_scopes.specs.References.{is_after_node, references_at}
@@ -60,7 +61,7 @@ is_body_below (Some parent) e = same_kind k.NODE_WITH (item_of parent).kind && i
 abbrev pub is_with_body : Located → Bool
 is_with_body e = is_body_below (parent_of e) e
 
--- a name, whether it is inherited, the number of its binding, and whether its value may come from a `with` instead
+-- a name, whether it is inherited, the number of its binding, and whether its value may come from a `with`
 pub record Resolved : Type 0 where
   pub text : List ℕ
   pub node : Located
@@ -68,10 +69,16 @@ pub record Resolved : Type 0 where
   pub binding : Option ℕ
   pub is_open : Bool
 
--- a name with its binding; without a binding, the name is open if it is below a `with`
+-- a name with its binding; without a binding, the name is open if it is below a `with`, unless Nix itself binds it
 abbrev pub resolved : Bool → Bool → Option ℕ → Named → Resolved
 resolved is_inherited below_with binding name =
-    record { text = name.text; node = name.node; is_inherited = is_inherited; binding = binding; is_open = not (is_some binding) && below_with }
+    record {
+      text = name.text;
+      node = name.node;
+      is_inherited = is_inherited;
+      binding = binding;
+      is_open = not (is_some binding) && (below_with && not (is_global name.text));
+    }
 
 -- what a reference of a node refers to, given all bindings and the nodes around the node
 abbrev pub resolved_among : List Bound → List Located → Located → Named → Resolved

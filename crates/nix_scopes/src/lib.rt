@@ -2,6 +2,7 @@
 #![tactic(auto)]
 
 mod environment;
+mod globals;
 mod name_roles;
 mod name_text;
 mod names;
@@ -12,6 +13,7 @@ mod resolving;
 mod scopes;
 mod symbols;
 
+pub use globals::is_global;
 pub use occurrences::name_at;
 pub use resolution::{Binding, Reference, Resolution};
 pub use resolving::resolve;

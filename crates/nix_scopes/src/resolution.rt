@@ -33,8 +33,8 @@ pub struct Reference<'t> {
     pub is_inherited: bool,
     /// The number of its binding, in the innermost scope around it that binds the name.
     pub binding: Option<usize>,
-    /// Whether it has no binding and is in the body of a `with`, which may bind the name. A name without a binding that is not open comes from outside the
-    /// text.
+    /// Whether it has no binding and is in the body of a `with`, which may bind the name: Nix itself does not. A name without a binding that is not open
+    /// comes from outside the text.
     pub is_open: bool,
 }
 

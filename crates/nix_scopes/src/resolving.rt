@@ -13,6 +13,7 @@ ghost use Rattle.nix_scopes.specs.Scopes.{bindings_in, resolved_in};
 ghost use Rattle.nix_scopes.specs.Resolving.{is_in_scope, number_in_scope, referring, resolve_name, resolve_at};
 
 use crate::environment::Environment;
+use crate::globals::is_global;
 use crate::name_roles::is_expression;
 use crate::names::{Name, attr_name};
 use crate::resolution::{Reference, Resolution};
@@ -33,12 +34,13 @@ fn add_reference<'t>(
     ensures { OnOk result (map resolved_of references.new.items ≡ map resolved_of references.old.items
         ++ referring around.now binding is_inherited (named name.entry) ∷ []) }
 {
+    let may_be_open = around.is_below_with() && !is_global(name.text.as_str());
     references.push(Reference {
         text: name.text,
         node: name.node,
         is_inherited,
         binding,
-        is_open: binding.is_none() && around.is_below_with(),
+        is_open: binding.is_none() && may_be_open,
     })?;
     Ok(())
 }

@@ -1,7 +1,7 @@
 //! What names refer to, found with a map for each scope. The maps are searched from the innermost scope on.
 
 use crate::bound_names::{Name, is_scope, names_bound};
-use nix_scopes::{Binding, Reference};
+use nix_scopes::{Binding, Reference, is_global};
 use rnix::ast::{AstNode, Inherit};
 use rnix::{Direction, SyntaxKind, SyntaxNode, WalkEvent};
 use std::alloc::{AllocError, Global};
@@ -141,12 +141,13 @@ fn add_reference<'t>(
 ) -> Result<(), AllocError> {
     let scopes = around.scopes.get(..depth).unwrap_or(&[]);
     let binding = innermost(scopes, &name.text);
+    let may_be_open = !around.with_bodies.is_empty() && !is_global(name.text.as_str());
     references.push(Reference {
         text: CowStr::Owned(name.text),
         node: name.node,
         is_inherited,
         binding,
-        is_open: binding.is_none() && !around.with_bodies.is_empty(),
+        is_open: binding.is_none() && may_be_open,
     })?;
     Ok(())
 }
