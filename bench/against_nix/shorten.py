@@ -19,10 +19,36 @@ def closing(words):
     return found
 
 
+def end_of(words, pairs, start):
+    """The last word of what begins at a word and ends with `;`, or for a `let` with its `in`; nothing if there is none inside the same brackets."""
+    lets, number = 0, start
+    while number < len(words) and words[number] not in PAIRS.values():
+        lets += (words[number] == "let") - (words[number] == "in")
+        if words[number] == ("in" if words[start] == "let" else ";") and lets <= 0:
+            return number
+        number = pairs.get(number, number) + 1
+    return None
+
+
+def clauses(words, pairs):
+    """The first and the last words of entries, and of what is before the body of a `let`, a `with` or an `assert`."""
+    before = "{"
+    for start, word in enumerate(words):
+        if not word.isspace():
+            end = end_of(words, pairs, start) if before in (";", "{", "let", "in", "(", "=", ":") else None
+            if end is not None:
+                yield start, end
+            before = word
+
+
 def shorter(words, length):
-    """Shorter lists of words, each with the place of its change: without runs of this length, without brackets, or without what is between distant ones."""
+    """Shorter lists of words, each with the place of its change: without runs of this length, without long clauses, without brackets, or without what is
+    between distant ones."""
     pairs = closing(words)
+    ends = dict(clauses(words, pairs))
     for start in range(len(words)):
+        if ends.get(start, 0) - start >= length:
+            yield start, words[:start] + words[ends[start] + 1 :]
         if start % max(1, length // 2) == 0:
             yield start, words[:start] + words[start + length :]
         right = pairs.get(start, 0)

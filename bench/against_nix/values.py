@@ -1,8 +1,8 @@
-"""The sorts that compare the value of a text before and after a program changed it: format, rename, dead."""
+"""The sorts that compare the value of a text before and after a program changed it: format, rename, dead, and the last two of merged sets."""
 import json
 import re
 
-from . import expressions
+from . import expressions, merged
 from .evaluate import Failure, evaluate, same
 from .programs import READ_OTHERWISE, Case, Difference, failed, value_shown
 from .trees import trees
@@ -77,17 +77,23 @@ class Rename:
 
     NAME = "rename"
     PROGRAMS = ["nix_rename"]
+    NEW_NAMES = NEW_NAMES
+    TEXT = staticmethod(expressions.text)
 
-    @staticmethod
-    def make(chance):
-        text = expressions.text(chance)
+    @classmethod
+    def make(cls, chance):
+        text = cls.TEXT(chance)
         words = [it for it in WORD.finditer(text) if it.group() not in expressions.KEYWORDS or chance.random() < 0.02] or [re.match("", text)]
-        place = chance.choice(words).start()
-        names = NEW_NAMES if chance.random() < 0.6 else [it.group() for it in words]
+        place = cls.chosen(words, chance).start()
+        names = cls.NEW_NAMES if chance.random() < 0.6 else [it.group() for it in words]
         return Case(text[:place] + Rename.MARK + text[place:], name=chance.choice(names))
 
     # Where the name is that is renamed.
     MARK = "\ue000"
+
+    @staticmethod
+    def chosen(words, chance):
+        return chance.choice(words)
 
     @staticmethod
     def judge(programs, folder, cases):
@@ -104,15 +110,29 @@ class Rename:
         return changed(value_words(*values), command, ran, ran.out, *values) if values else failed(ran, command)
 
 
+class MergedRename(Rename):
+    """The same in texts of sets that several entries make."""
+
+    NAME = "merged-rename"
+    NEW_NAMES = ["fresh", "fresh", "fresh", "map"]
+    TEXT = staticmethod(merged.text)
+
+    @staticmethod
+    def chosen(words, chance):
+        """A word near the start, where the names are bound that are no attributes."""
+        return words[int(len(words) * chance.random() ** 4)]
+
+
 class Dead:
     """What nix-dead reports can be removed."""
 
     NAME = "dead"
     PROGRAMS = ["nix_dead", "nix_tree"]
+    TEXT = staticmethod(expressions.text)
 
-    @staticmethod
-    def make(chance):
-        return Case(expressions.text(chance))
+    @classmethod
+    def make(cls, chance):
+        return Case(cls.TEXT(chance))
 
     @staticmethod
     def judge(programs, folder, cases):
@@ -127,6 +147,13 @@ class Dead:
     @staticmethod
     def verdict(command, ran, new, values):
         return changed(value_words(*values), command, ran, new, *values) if values else failed(ran, command)
+
+
+class MergedDead(Dead):
+    """The same in texts of sets that several entries make."""
+
+    NAME = "merged-dead"
+    TEXT = staticmethod(merged.text)
 
 
 def without(root, text, names):
