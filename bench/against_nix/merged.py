@@ -49,7 +49,7 @@ class Pieces:
         groups = [self.dotted(path, self.entry([*path, name], depth)) for name in parts.pop(0, [])]
         groups += [self.literal(path, part, depth) for part in parts.values()]
         self.near = before
-        if self.odds(0.2):
+        if not groups or self.odds(0.2):
             groups.append(self.literal(path, [], depth))
         return self.mixed(groups)
 

@@ -28,7 +28,6 @@ class Maker:
         self.count = 0
         self.names = NAMES if chance.random() < 0.4 else NAMES[:4]
         self.paths = []
-        self.lets = set()
         # Names of sets with `rec`: what inherits one changes with it, so none does.
         self.attributes_in_sight = set()
         self.is_odd = chance.random() < 0.5
@@ -131,7 +130,6 @@ class Maker:
 
     def let(self, scope, inside):
         names = list(dict.fromkeys(self.chance.choice("abcd") for _ in range(self.chance.choice([1, 1, 2]))))
-        self.lets |= set(names)
         entries = [[self.spelled(name), "=", *(self.constant(name) if self.odds(0.8) else self.set(["apart"], scope, 3)), ";"] for name in names]
         if self.odds(0.1):
             entries.append(["inherit", "(", "{", "e", "=", '"e"', ";", "}", ")", "e", ";"])
@@ -149,6 +147,22 @@ def path_of(maker, chance):
     return path
 
 
+def options_of(chance):
+    form = chance.choice([[], [], ["--raw"], ["--raw"], ["--list"], ["--remove"], ["--remove"]])
+    return [*form, *(["--add"] if form != ["--remove"] and chance.random() < 0.5 else [])]
+
+
+def given(options, path, chance):
+    """The words of nix-update for a path as it is written, and the value that the attribute gets."""
+    if "--remove" in options:
+        return {"words": [path], "value": None}
+    if "--list" in options:
+        value = " ".join(chance.choice(["x", "y", "z z", '"', "${", "\\"]) for _ in range(3))
+    else:
+        value = chance.choice(RAW if "--raw" in options else WORDS)
+    return {"words": [path, value], "value": value}
+
+
 class Update:
     NAME = "update"
     PROGRAMS = ["nix_update"]
@@ -157,15 +171,8 @@ class Update:
     def make(chance):
         maker = Maker(chance)
         text = joined(maker.wrapped([], [], 0), chance)
-        path = path_of(maker, chance)
-        written = ".".join(maker.spelled(name) for name in path)
-        form = chance.choice([[], [], ["--raw"], ["--raw"], ["--list"], ["--remove"], ["--remove"]])
-        if form == ["--remove"]:
-            return Case(text, path=path, lets=maker.lets, options=form, words=[written], value=None)
-        value = {"--raw": lambda: chance.choice(RAW), "--list": lambda: " ".join(chance.choice(["x", "y", "z z", '"', "${", "\\"]) for _ in range(3))}
-        given = value.get(form[0] if form else "", lambda: chance.choice(WORDS))()
-        options = [*form, *(["--add"] if chance.random() < 0.5 else [])]
-        return Case(text, path=path, lets=maker.lets, options=options, words=[written, given], value=given)
+        path, options = path_of(maker, chance), options_of(chance)
+        return Case(text, path=path, options=options, **given(options, ".".join(maker.spelled(name) for name in path), chance))
 
     @staticmethod
     def judge(programs, folder, cases):
