@@ -195,8 +195,8 @@ def remove_binding(node, changes):
 
 
 def plain_name(written):
-    """The name that is written so: in quotes, or in an interpolation with quotes."""
-    return re.sub(r'^(\$\{\s*)?("|\'\')(.*?)("|\'\')(\s*\})?$', r"\3", written, flags=re.DOTALL)
+    """The name that is written so: in quotes, or in an interpolation with quotes, perhaps in parentheses."""
+    return re.sub(r'^(\$\{[\s(]*)?("|\'\')(.*?)("|\'\')([\s)]*\})?$', r"\3", written, flags=re.DOTALL)
 
 
 def remove_arguments(pattern, changes):
