@@ -286,11 +286,13 @@ def leaves(value):
 
 
 def wrong_with_let(case, before, after, given):
-    """What is wrong where no attribute has the path, and a name of a `let` is set, to which values may refer."""
+    """What is wrong where no attribute has the path, and a name of a `let` is set, to which values may refer, also by a `with`."""
     if same(before, after):
         return None
     for old in leaves(before):
-        wanted = given if len(case.path) == 1 else with_value(old, case.path[1:], given)
-        if agrees(before, after, [(old, wanted)]) and (len(case.path) > 1 or not isinstance(old, str) or old.startswith(case.path[-1] + "=")):
+        is_around = len(case.path) > 1 and isinstance(old, dict)
+        below = case.path[1:]
+        renewed = [(old, with_value(old, below, given)), (inner(old, below)[0], given)] if is_around else [(old, given)]
+        if agrees(before, after, renewed) and (not isinstance(old, str) or old.startswith(case.path[-1] + "=")):
             return None
     return "another attribute changes by setting a name of a let"
