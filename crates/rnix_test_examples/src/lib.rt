@@ -1,6 +1,8 @@
-//! Tests of the examples in README.md and `docs`: uses of typed nodes, an edit, messages and fixes, recursions and loops, and an `unwrap` that never fails.
+//! Tests of the examples in README.md and `docs`: uses of typed nodes, edits, messages and fixes, recursions and loops, and an `unwrap` that never fails.
 #![tactic(auto)]
 
+#[cfg(test)]
+mod again;
 #[cfg(test)]
 mod chains;
 #[cfg(test)]
