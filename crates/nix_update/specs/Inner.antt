@@ -12,31 +12,25 @@ use Rattle.rnix_base.specs.Select.{child_of, tokens_in}
 use Rattle.rnix.specs.AttrName.{without_parens}
 use Rattle.rnix.specs.NodeKinds.{is_expr}
 
--- whether an operand of `//` with this kind may be the one into which a path leads: a set, or another operation
-abbrev pub is_candidate : SyntaxKind → Bool
-is_candidate k.NODE_ATTR_SET = true
-is_candidate k.NODE_BIN_OP = true
-is_candidate _ = false
-
--- whether an expression of a kind may write out attributes, which then come before those of the left operand: a set, another operation, or an expression
--- whose value is that of an expression inside it
+-- whether an expression of a kind may write out attributes: a set, an operation, or an expression whose value is that of an expression inside it
 abbrev pub may_define : SyntaxKind → Bool
+may_define k.NODE_ATTR_SET = true
+may_define k.NODE_BIN_OP = true
 may_define k.NODE_IF_ELSE = true
 may_define k.NODE_LET_IN = true
 may_define k.NODE_LEGACY_LET = true
 may_define k.NODE_WITH = true
 may_define k.NODE_ASSERT = true
-may_define kind = is_candidate kind
+may_define _ = false
 
--- whether a right operand, without the parentheses around it, may write out attributes
-abbrev pub comes_first : Located → Bool
-comes_first right = may_define (item_of (without_parens right)).kind
+-- whether a path may lead into an operand of `//`: without the parentheses around it, it is such an expression
+abbrev pub is_candidate : Located → Bool
+is_candidate e = may_define (item_of (without_parens e)).kind
 
 -- the one of two operands into which a path may lead, if it cannot lead into the other
 abbrev pub only_candidate : Located → Located → Option Located
 only_candidate left right =
-    if is_candidate (item_of left).kind then (if comes_first right then None else Some left)
-    else (if comes_first right then Some right else None)
+    if is_candidate left then (if is_candidate right then None else Some left) else (if is_candidate right then Some right else None)
 
 -- the same, for operands that may be missing
 abbrev pub only_candidate_if : Option Located → Option Located → Option Located
@@ -66,6 +60,6 @@ inner_by k.NODE_BIN_OP e = operand e
 inner_by _ e = None
 
 -- the expression into which a path leads inside a node: the one of the root or in brackets, the body of a function, a `let`, a `with` or an `assert`, the
--- argument of a call, or the only operand of `//` that is a set or another operation
+-- argument of a call, or the only operand of `//` into which a path may lead
 abbrev pub inner : Located → Option Located
 inner e = inner_by (item_of e).kind e

@@ -6,7 +6,7 @@ ghost use Rattle.rnix_base.specs.Select.{child_of, tokens_in};
 ghost use Rattle.rnix_base.specs.TokenOperators.{first_operator, binary_operator};
 ghost use Rattle.rnix_green.specs.Walk.{children_of};
 ghost use Rattle.rnix.specs.NodeKinds.{is_expr};
-ghost use Rattle.nix_update.specs.Inner.{is_candidate, may_define, comes_first, only_candidate, operand, inner};
+ghost use Rattle.nix_update.specs.Inner.{may_define, is_candidate, only_candidate, operand, inner};
 
 use rnix::ast::{AstNode, BinOp, BinOpKind, Expr, without_parens};
 use rnix::{SyntaxKind, SyntaxNode};
@@ -20,45 +20,40 @@ pub fn expr_at<'t>(node: &SyntaxNode<'t>, number: usize) -> Option<SyntaxNode<'t
     Some(expr.syntax().clone())
 }
 
-// Returns whether PATH may lead into an operand of `//` of a kind: a set or another operation.
-fn is_candidate(kind: SyntaxKind) -> bool
-    ensures { result ≡ is_candidate kind }
-{
-    matches!(kind, SyntaxKind::NODE_ATTR_SET | SyntaxKind::NODE_BIN_OP)
-}
-
 // Returns whether an expression of a kind may write out attributes.
 fn may_define(kind: SyntaxKind) -> bool
     ensures { result ≡ may_define kind }
 {
-    match kind {
-        SyntaxKind::NODE_IF_ELSE
-        | SyntaxKind::NODE_LET_IN
-        | SyntaxKind::NODE_LEGACY_LET
-        | SyntaxKind::NODE_WITH
-        | SyntaxKind::NODE_ASSERT => true,
-        kind => is_candidate(kind),
-    }
+    matches!(
+        kind,
+        SyntaxKind::NODE_ATTR_SET
+            | SyntaxKind::NODE_BIN_OP
+            | SyntaxKind::NODE_IF_ELSE
+            | SyntaxKind::NODE_LET_IN
+            | SyntaxKind::NODE_LEGACY_LET
+            | SyntaxKind::NODE_WITH
+            | SyntaxKind::NODE_ASSERT
+    )
 }
 
-// Returns whether a right operand may write out attributes, which come before those of the left one.
-fn comes_first(right: &SyntaxNode<'_>) -> bool
-    ensures { result ≡ comes_first right.now }
+// Returns whether PATH may lead into an operand of `//`: without the parentheses around it, it may write out attributes.
+fn is_candidate(operand: &SyntaxNode<'_>) -> bool
+    ensures { result ≡ is_candidate operand.now }
 {
-    may_define(without_parens(right).kind())
+    may_define(without_parens(operand).kind())
 }
 
 // Returns the operand into which PATH may lead, if it may lead into just one of the two.
 fn only_candidate<'t>(left: SyntaxNode<'t>, right: SyntaxNode<'t>) -> Option<SyntaxNode<'t>>
     ensures { result ≡ only_candidate left.entry right.entry }
 {
-    if is_candidate(left.kind()) {
-        if comes_first(&right) {
+    if is_candidate(&left) {
+        if is_candidate(&right) {
             None
         } else {
             Some(left)
         }
-    } else if comes_first(&right) {
+    } else if is_candidate(&right) {
         Some(right)
     } else {
         None
@@ -77,7 +72,7 @@ fn operand<'t>(node: &SyntaxNode<'t>) -> Option<SyntaxNode<'t>>
 }
 
 /// Returns the expression in a node that has the node's attributes: the one of the root or in parentheses, the body of a function, a `let`, a `with` or an
-/// `assert`, the argument of a call, or the only operand of `//` that is a set or another operation.
+/// `assert`, the argument of a call, or the only operand of `//` into which PATH may lead.
 pub fn inner<'t>(node: &SyntaxNode<'t>) -> Option<SyntaxNode<'t>>
     ensures { result ≡ inner node.now }
 {
