@@ -1,5 +1,5 @@
 -- The meaning of an expression that contains only literals, lists, and sets whose paths are single names.
-use Rattle.std.specs.Prelude.{◌≡◌, ℕ, zero, suc, ◌+◌, Bool, true, false, List, [], ◌∷◌, ◌++◌, map, codes, bytes_eq, Option, Some, None, unwrap_or, if◌then◌else◌, ◌<◌, ◌^◌, unsigned_abs}
+use Rattle.std.specs.Prelude.{◌≡◌, ℕ, zero, suc, ◌+◌, ◌==◌, ◌&&◌, ◌||◌, not, length, Bool, true, false, List, [], ◌∷◌, ◌++◌, map, codes, bytes_eq, Option, Some, None, unwrap_or, if◌then◌else◌, ◌<◌, ◌^◌, unsigned_abs}
 use Rattle.std.specs.Fmt.{signed_decimal}
 use Rattle.std.specs.List.{IsDistinct}
 use Rattle.rnix_kinds.specs.declared.kinds.SyntaxKind.TheVariants as k
@@ -63,9 +63,13 @@ source_inside e (Some inner) = without_parens inner
 abbrev pub name_source : Located → Located
 name_source e = if same_kind k.NODE_DYNAMIC (item_of e).kind then source_inside e (child_of is_expr 0 e) else e
 
+-- whether `${` and `}` have not just one node between them: Nix does not read more than one expression there
+abbrev pub is_no_single : Located → Bool
+is_no_single e = same_kind k.NODE_DYNAMIC (item_of e).kind && not (length (nodes_in (children_of e)) == 1)
+
 -- the name that an attribute in a path denotes: that which Nix knows without evaluation, unless Nix changes the string that writes it
 abbrev pub key_of : Located → Option (List ℕ)
-key_of e = if is_altered (text_at (name_source e)) then None else static_name e
+key_of e = if is_no_single e || is_altered (text_at (name_source e)) then None else static_name e
 
 -- the name of the only attribute in the list, if there is exactly one
 abbrev pub single_name : List Located → Option (List ℕ)

@@ -1,12 +1,13 @@
 //! The names that attributes in paths denote.
 
-ghost use Rattle.std.specs.Prelude.{◌≡◌, option_map, string_bytes, IfOk};
+ghost use Rattle.std.specs.Prelude.{◌≡◌, ◌==◌, length, option_map, string_bytes, IfOk};
+ghost use Rattle.rnix_green.specs.Walk.{nodes_in, children_of};
 ghost use Rattle.rnix.specs.Sums.{attr_node};
-ghost use Rattle.nix_data.specs.Meaning.{name_source, key_of};
+ghost use Rattle.nix_data.specs.Meaning.{name_source, is_no_single, key_of};
 
 use crate::misread::is_altered;
-use rnix::SyntaxNode;
 use rnix::ast::{AstNode, Attr, Dynamic, without_parens};
+use rnix::{SyntaxKind, SyntaxNode};
 use std::alloc::{AllocError, Global};
 
 /// Returns the node that writes the name of an attribute: of `${` and `}` the expression between them, without parentheses around it.
@@ -22,12 +23,27 @@ pub fn name_source<'t>(node: &SyntaxNode<'t>) -> SyntaxNode<'t>
     }
 }
 
+// Returns whether a node has exactly one child node.
+fn has_one_child(node: &SyntaxNode<'_>) -> bool
+    ensures { result ≡ (length (nodes_in (children_of node.now)) == 1) }
+{
+    let mut children = node.children();
+    children.next().is_some() && children.next().is_none()
+}
+
+// Returns whether a node is `${` and `}` with not just one node between them.
+fn is_no_single(node: &SyntaxNode<'_>) -> bool
+    ensures { result ≡ is_no_single node.now }
+{
+    node.kind() == SyntaxKind::NODE_DYNAMIC && !has_one_child(node)
+}
+
 /// Returns the name that an attribute in a path denotes, unless Nix evaluates it or changes the string that writes it.
 pub fn key_of(alloc: Global, attr: &Attr<'_>) -> Result<Option<String>, AllocError>
     ensures { IfOk result (λ name. option_map string_bytes name ≡ key_of (attr_node attr.now)) }
 {
-    let source = name_source(attr.syntax());
-    if is_altered(source.text()) {
+    let node = attr.syntax();
+    if is_no_single(node) || is_altered(name_source(node).text()) {
         return Ok(None);
     }
     attr.static_name(alloc)
