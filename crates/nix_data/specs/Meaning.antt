@@ -64,12 +64,12 @@ abbrev pub name_source : Located → Located
 name_source e = if same_kind k.NODE_DYNAMIC (item_of e).kind then source_inside e (child_of is_expr 0 e) else e
 
 -- whether `${` and `}` have not just one node between them: Nix does not read more than one expression there
-abbrev pub is_no_single : Located → Bool
-is_no_single e = same_kind k.NODE_DYNAMIC (item_of e).kind && not (length (nodes_in (children_of e)) == 1)
+abbrev pub lacks_single_node : Located → Bool
+lacks_single_node e = same_kind k.NODE_DYNAMIC (item_of e).kind && not (length (nodes_in (children_of e)) == 1)
 
 -- the name that an attribute in a path denotes: that which Nix knows without evaluation, unless Nix changes the string that writes it
 abbrev pub key_of : Located → Option (List ℕ)
-key_of e = if is_no_single e || is_altered (text_at (name_source e)) then None else static_name e
+key_of e = if lacks_single_node e || is_altered (text_at (name_source e)) then None else static_name e
 
 -- the name of the only attribute in the list, if there is exactly one
 abbrev pub single_name : List Located → Option (List ℕ)

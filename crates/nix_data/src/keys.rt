@@ -3,7 +3,7 @@
 ghost use Rattle.std.specs.Prelude.{◌≡◌, ◌==◌, length, option_map, string_bytes, IfOk};
 ghost use Rattle.rnix_green.specs.Walk.{nodes_in, children_of};
 ghost use Rattle.rnix.specs.Sums.{attr_node};
-ghost use Rattle.nix_data.specs.Meaning.{name_source, is_no_single, key_of};
+ghost use Rattle.nix_data.specs.Meaning.{name_source, lacks_single_node, key_of};
 
 use crate::misread::is_altered;
 use rnix::ast::{AstNode, Attr, Dynamic, without_parens};
@@ -32,8 +32,8 @@ fn has_one_child(node: &SyntaxNode<'_>) -> bool
 }
 
 // Returns whether a node is `${` and `}` with not just one node between them.
-fn is_no_single(node: &SyntaxNode<'_>) -> bool
-    ensures { result ≡ is_no_single node.now }
+fn lacks_single_node(node: &SyntaxNode<'_>) -> bool
+    ensures { result ≡ lacks_single_node node.now }
 {
     node.kind() == SyntaxKind::NODE_DYNAMIC && !has_one_child(node)
 }
@@ -43,7 +43,7 @@ pub fn key_of(alloc: Global, attr: &Attr<'_>) -> Result<Option<String>, AllocErr
     ensures { IfOk result (λ name. option_map string_bytes name ≡ key_of (attr_node attr.now)) }
 {
     let node = attr.syntax();
-    if is_no_single(node) || is_altered(name_source(node).text()) {
+    if lacks_single_node(node) || is_altered(name_source(node).text()) {
         return Ok(None);
     }
     attr.static_name(alloc)
