@@ -1,13 +1,12 @@
 -- Attributes of one index that are added to another, one by one.
-use Rattle.std.proofs.Common.{◌≡◌, ◌∙◌, ℕ, ◌+◌, ◌<◌, ◌≤◌, length, Bool, true, false, List, [], ◌∷◌, Option, Some, None, ◌⊎◌, inl, inr, ⊎_elim, sym, refl, ap, ap₂, subst, arith}
+use Rattle.std.proofs.Common.{◌≡◌, ◌∙◌, ℕ, ◌+◌, ◌<◌, length, Bool, true, false, List, [], ◌∷◌, Option, Some, None, ◌⊎◌, inl, inr, ⊎_elim, sym, refl, ap, ap₂, subst, arith}
 use Rattle.std.specs.Map.{lookup, values_of}
 use Rattle.std.specs.Ordering.{nat_cmp}
 use Rattle.std.specs.BTreeMap.{BTreeMap, values, get, get_by_text}
-use Rattle.std.proofs.Math.ListN.{get_or, get_or-eq_default}
+use Rattle.std.proofs.Math.ListN.{get_or}
 use Rattle.std.proofs.lemmas.List.{get_or_default}
-use Rattle.std.proofs.lemmas.Bool.{cases_Bool, cases_eq, cases_lt, cond-true, cond-false, both_ways, eq-eqb}
+use Rattle.std.proofs.lemmas.Bool.{cases_Bool, cases_eq, cond-true, cond-false, both_ways}
 use Rattle.std.proofs.lemmas.Option.{same_Some, none-some, some_pair_parts, option_and_then_some}
-use Rattle.nix_values.specs.declared.slots.TheConstants.{FREE}
 use Rattle.nix_values.specs.declared.slots.Slot.{Slot}
 use Rattle.nix_values.specs.declared.attributes.Attributes.{Attributes}
 use Rattle.nix_values.specs.AttributeHash.{attribute_hash}
@@ -91,9 +90,6 @@ pub record IsAddedTill (keys : Keys) (others new : Attributes) (count : ℕ) : T
   pub all : (j s : ℕ) (n : List ℕ) → j < count → is_free (slot_at others.slots.slots.items j) ≡ false →
       keys (slot_at others.slots.slots.items j).number ≡ Some (s, n) → found_in new keys s n ≡ Some (slot_at others.slots.slots.items j).number
 
-pub till_start : (keys : Keys) (others new : Attributes) → IsConsistent keys new → IsWithin keys new others → IsAddedTill keys others new 0
-till_start keys others new sound within = record { sound = sound; within = within; all = λ j s n before taken key. absurd (omega arith) }
-
 pub till_free : (keys : Keys) (others new : Attributes) (i : ℕ) → IsAddedTill keys others new i → is_free (slot_at others.slots.slots.items i) ≡ true →
     IsAddedTill keys others new (i + 1)
 till_free keys others new i till free = record {
@@ -139,19 +135,6 @@ till_added keys others old new i sound till taken added =
           (till.all j s n less other key))
           (cases_eq j i);
     }
-
-pub till_all : (keys : Keys) (others new : Attributes) (count : ℕ) → IsAddedTill keys others new count → length others.slots.slots.items ≤ count →
-    AreSlotsAdded keys others new
-till_all keys others new count till past = record {
-  sound = till.sound;
-  within = till.within;
-  all = λ i s n taken key. ⊎_elim
-      (λ less. till.all i s n less taken key)
-      (λ more.
-      let none : slot_at others.slots.slots.items i ≡ free_slot = get_or-eq_default others.slots.slots.items free_slot (omega (arith, more, past)) in
-      absurd (both_ways (is_free (slot_at others.slots.slots.items i)) taken (ap is_free none ∙ eq-eqb FREE FREE refl)))
-      (cases_lt i count);
-}
 
 -- the entry of a slot
 entry_is : (slot : Slot) (h m : ℕ) → Some (h, m) ≡ slot_entry slot → (is_free slot ≡ false) × (slot.hash ≡ h) × (slot.number ≡ m)
@@ -220,11 +203,6 @@ found_other_key keys others m t k sound key none s n e =
     let same : (s ≡ t) × (n ≡ k) = same_pair keys m s t n k (found_key keys others s n m sound e) key in
     none (ap₂ (λ x y. found_in others keys x y) (sym same.0) (sym same.1) ∙ e)
 
-pub found_no_key : (keys : Keys) (others : Attributes) (m : ℕ) → IsConsistent keys others → keys m ≡ None → (s : ℕ) (n : List ℕ) →
-    found_in others keys s n ≡ Some m → ⊥
-found_no_key keys others m sound none s n e =
-    none-some {A = ℕ × List ℕ} (s, n) (sym none ∙ found_key keys others s n m sound e)
-
 -- all but the remaining values with a name have been added
 pub record AreSetsTill (keys : Keys) (others : Attributes) (sets : BTreeMap ℕ ℕ) (old new : Attributes) (remaining : List ℕ) : Type 0 where
   pub sound : IsConsistent keys new
@@ -232,16 +210,6 @@ pub record AreSetsTill (keys : Keys) (others : Attributes) (sets : BTreeMap ℕ 
   pub kept : IsWithin keys old new
   pub all : (m : ℕ) → IsOneOf (values sets) m → IsOneOf remaining m ⊎ ((s : ℕ) (n : List ℕ) → found_in others keys s n ≡ Some m
       → found_in new keys s n ≡ Some m)
-
-pub sets_start : (keys : Keys) (others : Attributes) (sets : BTreeMap ℕ ℕ) (old : Attributes) (remaining : List ℕ) → IsConsistent keys old →
-    IsWithin keys old others →
-    remaining ≡ values sets → AreSetsTill keys others sets old old remaining
-sets_start keys others sets old remaining sound within is = record {
-  sound = sound;
-  within = within;
-  kept = λ s n m e. e;
-  all = λ m one. inl (subst (λ xs. IsOneOf xs m) (sym is) one);
-}
 
 pub sets_more : (keys : Keys) (others : Attributes) (sets : BTreeMap ℕ ℕ) (old middle new : Attributes) (before remaining : List ℕ) (m : ℕ)
     → before ≡ m ∷ remaining →
@@ -259,16 +227,6 @@ sets_more keys others sets old middle new before remaining m is till added = rec
       (till.all x one);
 }
 
-pub sets_all : (keys : Keys) (others : Attributes) (sets : BTreeMap ℕ ℕ) (old new : Attributes) (remaining : List ℕ)
-    → AreSetsTill keys others sets old new remaining →
-    remaining ≡ [] → AreSetsAdded keys others sets old new
-sets_all keys others sets old new remaining till none = record {
-  sound = till.sound;
-  within = till.within;
-  kept = till.kept;
-  all = λ s n m one e. ⊎_elim (λ rest. absurd (subst (λ xs. IsOneOf xs m) none rest)) (λ done. done s n e) (till.all m one);
-}
-
 -- all but the remaining names have been added
 pub record AreNamesTill (keys : Keys) (others old new : Attributes) (remaining : List (BTreeMap ℕ ℕ)) : Type 0 where
   pub sound : IsConsistent keys new
@@ -276,15 +234,6 @@ pub record AreNamesTill (keys : Keys) (others old new : Attributes) (remaining :
   pub kept : IsWithin keys old new
   pub all : (sets : BTreeMap ℕ ℕ) → IsOneOf (values others.crowded.names) sets → IsOneOf remaining sets ⊎
       ((s : ℕ) (n : List ℕ) (m : ℕ) → IsOneOf (values sets) m → found_in others keys s n ≡ Some m → found_in new keys s n ≡ Some m)
-
-pub names_start : (keys : Keys) (others old : Attributes) (remaining : List (BTreeMap ℕ ℕ)) → IsConsistent keys old → IsWithin keys old others →
-    remaining ≡ values others.crowded.names → AreNamesTill keys others old old remaining
-names_start keys others old remaining sound within is = record {
-  sound = sound;
-  within = within;
-  kept = λ s n m e. e;
-  all = λ sets one. inl (subst (λ xs. IsOneOf xs sets) (sym is) one);
-}
 
 pub names_added : (keys : Keys) (others old middle new : Attributes) (before remaining : List (BTreeMap ℕ ℕ)) (sets : BTreeMap ℕ ℕ)
     → before ≡ sets ∷ remaining →

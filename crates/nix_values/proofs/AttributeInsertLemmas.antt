@@ -187,6 +187,3 @@ inserted_same keys old middle new s n m sound same inserted = λ later more key.
           ∙ ap (λ o. cond (same_key s n t k) (Some m) o)
           (later_finds keys later middle same.sound more t k ∙ same.finds t k ∙ sym (later_finds keys later old sound more t k));
     }
-
-pub kept_same : (keys : Keys) (old middle new : Attributes) → IsSame keys old middle → IsSame keys middle new → IsSame keys old new
-kept_same keys old middle new first second = record { sound = second.sound; finds = λ s n. second.finds s n ∙ first.finds s n }

@@ -183,13 +183,6 @@ depth_known nodes deep parent node is =
       omega (arith, less, low),
     )
 
-pub depth_unknown : (nodes : List Node) (parent : ℕ) → slice_get nodes parent ≡ None → depth_under nodes (parent_before (length nodes) (Some parent)) ≡ 0
-depth_unknown nodes parent is =
-    ⊎_elim
-    (λ less. ap (depth_under nodes) (cond-true (nat_lt parent (length nodes)) (Some parent) None less) ∙ ap depth_inside is)
-    (λ more. ap (depth_under nodes) (cond-false (nat_lt parent (length nodes)) (Some parent) None more))
-    (cases_Bool (nat_lt parent (length nodes)))
-
 depth_more : (nodes : List Node) (new : Node) (k : ℕ) → k ≤ length nodes → (o : Option ℕ) →
     depth_under (nodes ++ new ∷ []) (parent_before k o) ≡ depth_under nodes (parent_before k o)
 depth_more nodes new k small None = refl

@@ -1,9 +1,9 @@
 -- Each name that is read in JSON differs from the names that its set already has.
-use Rattle.std.proofs.Common.{◌≡◌, ◌∙◌, ℕ, ◌+◌, ◌-◌, ◌<◌, Bool, true, false, List, [], ◌∷◌, ◌++◌, length, map, Option, Some, None, IfNone, ⊎_elim, sym, refl, ap, subst, arith, append-nil}
+use Rattle.std.proofs.Common.{◌≡◌, ◌∙◌, ℕ, ◌+◌, ◌-◌, ◌<◌, Bool, true, false, List, [], ◌∷◌, ◌++◌, length, map, Option, Some, None, ⊎_elim, sym, refl, ap, subst, arith, append-nil}
 use Rattle.std.specs.Prelude.{slice_get}
 use Rattle.std.proofs.lemmas.Bool.{cases_Bool, cases_eq, cond-true, cond-false}
 use Rattle.std.proofs.lemmas.List.{length-append}
-use Rattle.std.proofs.lemmas.Option.{none-some, same_Some, slice_get_within, get_or_from_slice_get}
+use Rattle.std.proofs.lemmas.Option.{none-some, slice_get_within, get_or_from_slice_get}
 use Rattle.nix_values.specs.declared.json_reader.State.{State}
 use Rattle.nix_values.specs.declared.json_reader.State.TheVariants as state
 use Rattle.nix_values.specs.declared.json_reader.Frame.{Frame}
@@ -11,8 +11,6 @@ use Rattle.nix_values.specs.declared.json_reader.Reading.{Reading}
 use Rattle.nix_values.specs.Contents.{Plain, null, Entry, entry_of}
 use Rattle.nix_values.specs.Json.{Part}
 use Rattle.nix_values.specs.JsonNames.{next_entry}
-use Rattle.nix_values.specs.FoundKeys.{found_keys}
-use Rattle.nix_values.specs.IndexedAttributes.{found_in}
 use Rattle.nix_values.specs.RepeatedNames.{entry_key, entry_keys, HasDistinctNames}
 use Rattle.nix_values.specs.JsonLocations.{last_frame, set_of, in_set}
 use Rattle.nix_values.specs.JsonReading.{more_of, rest_of, parts_in, IsState, name_of, entries_in, is_value_next, is_colon_next, state_behind, opened, IsInside, IsPlacedIn, IsFree, IsNextFree, IsDistinct, IsNotTaken, IsAdded}
@@ -114,14 +112,6 @@ name_free r name placed none number key next there = by (last_frame r.frames.ite
         none f number is (placed.keys number ∙ there ∙ sym same))
         (λ list. list_free r f name is list number key next there)
         (cases_Bool f.is_set)
-
--- a name that is not found is not taken
-pub not_taken : (r : Reading) (frame : Frame) (name : List ℕ) (o : Option ℕ) → IsPlacedIn r → last_frame r.frames.items ≡ Some frame →
-    o ≡ found_in r.attributes (found_keys r.found) frame.node name → IfNone o (IsNotTaken r name)
-not_taken r frame name (Some number) placed last is = tt
-not_taken r frame name None placed last is = λ other number last_other key.
-    let same : frame ≡ other = same_Some frame other (sym last ∙ last_other) in
-    placed.complete number frame.node name (key ∙ ap (λ f. Some (f.node, name)) (sym same)) (sym is)
 
 pub behind_next : (r : Reading) (s : State) (fs : List Frame) → s ≡ state_behind fs → IsNextFree s r
 behind_next r s fs e = subst (λ t. IsNextFree t r) (sym e) (behind_free fs r)

@@ -1,6 +1,6 @@
 -- The position of the reader of JSON after each token.
 use Rattle.std.proofs.Common.{◌≡◌, ◌∙◌, ℕ, zero, suc, ◌+◌, ◌-◌, ◌<◌, ◌≤◌, Bool, true, false, cond, List, [], ◌∷◌, ◌++◌, length, get_or, take, map, Option, Some, None, ⊎_elim, inl, inr, sym, refl, ap, ap₂, subst, arith, ◌⊎◌, string_bytes, option_map}
-use Rattle.std.specs.Prelude.{IfSome, slice_get, option_and_then, if◌then◌else◌}
+use Rattle.std.specs.Prelude.{slice_get, option_and_then, if◌then◌else◌}
 use Rattle.std.proofs.lemmas.Bool.{cases_Bool, cases_eq, cases_lt, both_ways, cond-true, cond-false, le-ltb}
 use Rattle.std.proofs.lemmas.List.{length-append, length-map, map-append}
 use Rattle.std.proofs.lemmas.Option.{slice_get_past, slice_get_within, slice_get-get_or, same_Some, none-some}
@@ -13,10 +13,10 @@ use Rattle.nix_values.specs.Contents.{Entry, entry_of}
 use Rattle.nix_values.specs.Built.{is_set_plain}
 use Rattle.nix_values.specs.FoundKeys.{found_keys}
 use Rattle.nix_values.specs.IndexedAttributes.{found_in, IsConsistent, IsInserted}
-use Rattle.nix_values.proofs.AttributeLemmas.{found_key, key_yes, same_key}
+use Rattle.nix_values.proofs.AttributeLemmas.{key_yes, same_key}
 use Rattle.nix_values.specs.RepeatedNames.{is_outside, last_outside, is_set_entry, entry_key, entry_keys}
 use Rattle.nix_values.specs.declared.json_reader.Reading.{Reading}
-use Rattle.nix_values.specs.JsonReading.{opened_plain, name_of, entries_in, IsPlacedIn, IsTaken, IsAdded}
+use Rattle.nix_values.specs.JsonReading.{opened_plain, name_of, entries_in, IsPlacedIn, IsAdded}
 use Rattle.nix_values.specs.Attached.{IsAttached}
 use Rattle.nix_values.specs.JsonLocations.{entries_of, last_frame, set_of, IsPlaced, in_set}
 use Rattle.nix_values.proofs.AttributeInsertLemmas.{Extends, later_sound, later_finds}
@@ -264,13 +264,6 @@ placed_closed found a frames new n placed is = record {
   outside = λ depth frame at. placed.outside depth frame (get_taken n frames frame depth (sym (ap (λ x. slice_get x depth) is) ∙ at));
   kinds = λ depth frame at. placed.kinds depth frame (get_taken n frames frame depth (sym (ap (λ x. slice_get x depth) is) ∙ at));
 }
-
--- a value that is found is the attribute with this name
-pub taken_from : (r : Reading) (frame : Frame) (name : List ℕ) (o : Option ℕ) → IsPlacedIn r → last_frame r.frames.items ≡ Some frame →
-    o ≡ found_in r.attributes (found_keys r.found) frame.node name → IfSome o (λ number. IsTaken r number name)
-taken_from r frame name None placed last is = tt
-taken_from r frame name (Some number) placed last is =
-    (frame, last, found_key (found_keys r.found) r.attributes frame.node name number placed.sound (sym is))
 
 opened_kind : (b : Bool) → is_set_plain (opened_plain b) ≡ b
 opened_kind true = refl

@@ -1,14 +1,10 @@
 -- Numbers in JSON, and floats.
-use Rattle.std.proofs.Common.{◌≡◌, ◌≢◌, ◌∙◌, ℕ, zero, suc, ◌+◌, ◌-◌, ◌^◌, ◌<◌, ◌≤◌, true, false, Bool, lit<, List, [], ◌∷◌, length, get_or, take, drop, ap, sym, refl, subst, arith, inl, inr, Option, Some, None}
-use Rattle.std.specs.Prelude.{unwrap_or, option_map, option_and_then, ◌==◌, ℤ, pos, Result}
-use Rattle.std.specs.Result.{OkIff}
-use Rattle.std.specs.Int.{w64}
-use mir.Val.{hbits}
+use Rattle.std.proofs.Common.{◌≡◌, ◌≢◌, ◌∙◌, ℕ, zero, suc, ◌+◌, ◌-◌, ◌<◌, ◌≤◌, true, false, Bool, lit<, List, [], ◌∷◌, length, get_or, take, drop, ap, sym, refl, subst, arith, inl, inr, Option, Some, None}
+use Rattle.std.specs.Prelude.{unwrap_or, option_map, option_and_then, ◌==◌}
 use Rattle.std.specs.Char.{is_ascii_digit, digit_value}
 use Rattle.std.specs.List.{prefix_len}
 use Rattle.std.specs.Str.{IsCharBoundary, IsUtf8}
-use Rattle.std.specs.Str.Parse.{AllDigits, IsNumeral, digits_value, ParsesSigned}
-use Rattle.std.proofs.lemmas.Str.Parse.{parse_signed_plain, numerals_by_value, tells_digits}
+use Rattle.std.specs.Str.Parse.{AllDigits, IsNumeral}
 use Rattle.std.proofs.lemmas.{Bool.{cases_lt, cond-true, cond-false, eqb-true, eqb-false}, Bool.Decides.nat_tests, Str.{IsCharBoundary-start, IsCharBoundary-after_ascii}}
 use Rattle.std.proofs.lemmas.List.{get_or-drop, length-drop, get_or_past, drop_more, length-take-le}
 use Rattle.std.proofs.lemmas.List.Sums.{prefix_len-le-length, prefix_len_passes}
@@ -202,13 +198,3 @@ number_none text end is_integer h value =
 pub no_number : (text : List ℕ) → number_end text ≡ None → number_at text ≡ None
 unfolding number_at
 no_number text h = ap (option_and_then (λ (n : ℕ × Bool). option_map (λ v. (v, n.0)) (number_value n.1 (take n.0 text)))) h
-
--- a numeral does not begin with a byte that is not a digit
-first_digit : (ds : List ℕ) (b : ℕ) → IsNumeral 10 ds → digit_value b ≡ 36 → get_or ds 0 0 ≢ b
-first_digit [] b h other is = omega (arith, h.0)
-first_digit (d ∷ ds) b h other is = let e : digit_value d ≡ 36 = ap digit_value is ∙ other in omega (arith, e, h.1.0)
-
-pub parsed_numeral : {E : Type 0} (ds : List ℕ) (r : Result ℤ E) → ParsesSigned w64 10 ds r → IsNumeral 10 ds →
-    OkIff r (AllDigits 10 ds × (0 < length ds) × (digits_value 10 ds < 2 ^ hbits w64)) (pos (digits_value 10 ds))
-parsed_numeral ds r h numeral =
-    parse_signed_plain (numerals_by_value (AllDigits 10) tells_digits) w64 ds r h (first_digit ds 43 numeral refl) (first_digit ds 45 numeral refl)

@@ -6,9 +6,8 @@ use Rattle.nix_values.specs.Contents.{Entry}
 use Rattle.nix_values.specs.Json.{Token, is_space, token_at, tokens_behind, Part, value, Taken, in_front, parts_from, meaning, json_values}
 use Rattle.nix_values.specs.JsonErrors.{Stop, stop_at, parts_behind, stop_at_end, stop_in, json_stop}
 use Rattle.nix_values.specs.JsonNames.{completion}
-use Rattle.nix_values.proofs.JsonTokenLemmas.{before, in_front_twice}
+use Rattle.nix_values.proofs.JsonTokenLemmas.{before, in_front_twice, tokens_space, tokens_first}
 use Rattle.nix_values.proofs.JsonErrorLemmas.{space_first, token_first, behind_token}
-use Rattle.nix_values.proofs.JsonStopLemmas.{tokens_space, tokens_first}
 use Rattle.nix_values.proofs.JsonCompletionLemmas.{completes}
 use Rattle.nix_values.proofs.JsonPrefixLemmas.{cut_at}
 use Rattle.nix_values.proofs.JsonTokenPrefixLemmas.{token_kept, token_fits}

@@ -5,7 +5,6 @@ use Rattle.nix_values.specs.declared.json_reader.State.{State}
 use Rattle.nix_values.specs.declared.json_reader.State.TheVariants as state
 use Rattle.nix_values.specs.declared.json_reader.Frame.{Frame}
 use Rattle.nix_values.specs.declared.json_reader.Reading.{Reading}
-use Rattle.nix_values.specs.declared.json_error.JsonReason.TheVariants.{TooDeep}
 use Rattle.nix_values.specs.declared.json_error.JsonStop.{JsonStop}
 use Rattle.nix_values.specs.declared.json_error.JsonStop.TheVariants.{Refused}
 use Rattle.nix_values.specs.Json.{Token, opening, closing, comma, colon, string, scalar, Part, value, first_item, more_items, first_member, more_members, member, named}
@@ -94,11 +93,6 @@ open_unfit state.Colon fs name c next h = refl
 open_unfit state.CommaOrClose fs name c next h = open_last fs c h.0
 open_unfit state.End fs name c next h = ap (λ gs. unfitting (rest_of gs) (opening c)) h.0 ∙ sym (ap (λ gs. expected (rest_of gs)) h.0)
 
-deep_unfit : (s : State) (fs : List Frame) (name : List ℕ) (c : Bool) → is_value_next s ≡ true → unfitting (parts_in s fs name) (opening c) ≡ TooDeep
-deep_unfit state.Value fs name c next = refl
-deep_unfit state.ValueOrClose fs name c next = refl
-deep_unfit _ fs name c next = absurd (cc)
-
 -- the refusals in each state
 pub plain_stop : (stop : JsonStop) (r : Reading) (t : Token) (at : ℕ) → IsSound r → is_opening t ≡ false →
     stop ≡ Refused (error_at (reason_in r.state r.frames.items) at) → stop ≡ Refused (error_at (unfitting (parts_remaining r) t) at)
@@ -111,8 +105,3 @@ pub open_stop : (stop : JsonStop) (r : Reading) (c : Bool) (at : ℕ) → IsSoun
 open_stop stop r c at sound next is =
     is ∙ sym (ap (λ reason. Refused (error_at reason at))
     (open_unfit r.state r.frames.items (name_of r.name) c next sound ∙ expected_in r.state r.frames.items (name_of r.name) sound))
-
-pub deep_stop : (stop : JsonStop) (r : Reading) (c : Bool) (at : ℕ) → is_value_next r.state ≡ true →
-    stop ≡ Refused (error_at TooDeep at) → stop ≡ Refused (error_at (unfitting (parts_remaining r) (opening c)) at)
-deep_stop stop r c at next is =
-    is ∙ sym (ap (λ reason. Refused (error_at reason at)) (deep_unfit r.state r.frames.items (name_of r.name) c next))

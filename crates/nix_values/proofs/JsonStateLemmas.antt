@@ -1,9 +1,9 @@
 -- How the states of the reader of JSON handle each token.
-use Rattle.std.proofs.Common.{◌≡◌, ◌∙◌, ℕ, suc, ◌+◌, ◌-◌, ◌<◌, ◌≤◌, true, false, Bool, List, [], ◌∷◌, ◌++◌, length, get_or, take, drop, ap, ap₂, sym, refl, subst, arith, lt-ltb, le-ltb, Some, None}
+use Rattle.std.proofs.Common.{◌≡◌, ◌∙◌, ℕ, suc, ◌+◌, ◌-◌, ◌<◌, true, false, Bool, List, [], ◌∷◌, ◌++◌, length, get_or, take, drop, ap, ap₂, sym, refl, subst, arith, lt-ltb, Some, None}
 use Rattle.std.specs.Prelude.{nat_lt, option_map}
 use Rattle.std.proofs.Math.Seq.{take-length}
 use Rattle.std.proofs.lemmas.List.{take_more, length-append}
-use Rattle.std.proofs.lemmas.Bool.{cond-true, cond-false}
+use Rattle.std.proofs.lemmas.Bool.{cond-true}
 use Rattle.nix_values.specs.declared.json_reader.TheConstants.{MOST_DEPTH}
 use Rattle.nix_values.specs.declared.json_reader.State.{State}
 use Rattle.nix_values.specs.declared.json_reader.State.TheVariants as state
@@ -166,10 +166,6 @@ value_open : (b : Bool) (d : ℕ) (name : List ℕ) → d < MOST_DEPTH → value
 value_open true d name room = cond-true (nat_lt d MOST_DEPTH) _ _ (lt-ltb d MOST_DEPTH room)
 value_open false d name room = cond-true (nat_lt d MOST_DEPTH) _ _ (lt-ltb d MOST_DEPTH room)
 
-value_deep : (b : Bool) (d : ℕ) (name : List ℕ) → nat_lt d MOST_DEPTH ≡ false → value_from d name (opening b) ≡ None
-value_deep true d name deep = cond-false (nat_lt d MOST_DEPTH) _ _ deep
-value_deep false d name deep = cond-false (nat_lt d MOST_DEPTH) _ _ deep
-
 parts_opened : (b : Bool) (fs : List Frame) (f : Frame) (name : List ℕ) →
     first_of b (length fs + 1) ∷ rest_of fs ≡ parts_in (opened b) (fs ++ f ∷ []) name
 parts_opened true fs f name =
@@ -203,13 +199,6 @@ open_wrong b state.Colon fs name next h = refl
 open_wrong b state.CommaOrClose fs name next h = behind_wrong (opening b) (λ c d ps. more_open c b d ps) fs h.0
 open_wrong b state.End fs name next h = end_wrong (opening b) fs h.0
 
-pub open_deep : (b : Bool) (s : State) (fs : List Frame) (name : List ℕ) → is_value_next s ≡ true → MOST_DEPTH ≤ length fs →
-    parts_from (parts_in s fs name) (opening b) ≡ None
-open_deep b state.Value fs name next deep = ap (over (rest_of fs)) (value_deep b (length fs) name (le-ltb (length fs) MOST_DEPTH deep))
-open_deep b state.ValueOrClose fs name next deep =
-    ap (λ taken. over (drop 1 (rest_of fs)) (then_part (more_items (length fs)) taken)) (value_deep b (length fs) [] (le-ltb (length fs) MOST_DEPTH deep))
-open_deep _ _ fs name next deep = absurd (cc)
-
 -- the new frame is the innermost
 inside_opened : (fs : List Frame) (f : Frame) → IsInside f.is_set (fs ++ f ∷ [])
 inside_opened fs f =
@@ -225,12 +214,6 @@ opened_sound false fs f name is none = (subst (λ b. IsInside b (fs ++ f ∷ [])
 more_close : (b : Bool) (d : ℕ) (ps : List Part) → parts_from (more_of b d ∷ ps) (closing b) ≡ Some (ps, [])
 more_close true d ps = refl
 more_close false d ps = refl
-
-other_close : (b c : Bool) (d : ℕ) (ps : List Part) → (b ≡ c → ⊥) → parts_from (more_of b d ∷ ps) (closing c) ≡ None
-other_close true true d ps h = absurd (h refl)
-other_close false false d ps h = absurd (h refl)
-other_close true false d ps h = refl
-other_close false true d ps h = refl
 
 first_item_close : (b : Bool) (d : ℕ) (ps : List Part) → false ≡ b → parts_from (first_item d ∷ ps) (closing b) ≡ Some (ps, [])
 first_item_close false d ps h = refl
@@ -248,28 +231,6 @@ close_fits b state.CommaOrClose fs name next inside h =
     ap (λ ps. parts_from ps (closing b)) inside ∙ more_close b (length fs) (drop 1 (rest_of fs))
 close_fits _ _ fs name next inside h = absurd (cc)
 
-no_item_close : (b : Bool) (d : ℕ) (ps : List Part) → (false ≡ b → ⊥) → parts_from (first_item d ∷ ps) (closing b) ≡ None
-no_item_close true d ps h = refl
-no_item_close false d ps h = absurd (h refl)
-
-no_member_close : (b : Bool) (d : ℕ) (ps : List Part) → (true ≡ b → ⊥) → parts_from (first_member d ∷ ps) (closing b) ≡ None
-no_member_close false d ps h = refl
-no_member_close true d ps h = absurd (h refl)
-
--- the innermost frame is of the other kind
-pub close_other : (b c : Bool) (s : State) (fs : List Frame) (name : List ℕ) → IsInside b fs → (b ≡ c → ⊥) → IsState s fs name →
-    parts_from (parts_in s fs name) (closing c) ≡ None
-close_other b c state.Value fs name inside other h = refl
-close_other b c state.ValueOrClose fs name inside other h =
-    no_item_close c (length fs) (drop 1 (rest_of fs)) (λ e. other (one_sort b false fs inside h.0 ∙ e))
-close_other b c state.Name fs name inside other h = refl
-close_other b c state.NameOrClose fs name inside other h =
-    no_member_close c (length fs) (drop 1 (rest_of fs)) (λ e. other (one_sort b true fs inside h.0 ∙ e))
-close_other b c state.Colon fs name inside other h = refl
-close_other b c state.CommaOrClose fs name inside other h =
-    ap (λ ps. parts_from ps (closing c)) inside ∙ other_close b c (length fs) (drop 1 (rest_of fs)) other
-close_other b c state.End fs name inside other h = end_wrong (closing c) fs h.0
-
 -- no closing bracket may come next
 pub close_wrong : (b : Bool) (s : State) (fs : List Frame) (name : List ℕ) → is_close_next s ≡ false → IsState s fs name →
     parts_from (parts_in s fs name) (closing b) ≡ None
@@ -280,16 +241,6 @@ close_wrong b state.NameOrClose fs name next h = absurd (cc)
 close_wrong b state.Colon fs name next h = refl
 close_wrong b state.CommaOrClose fs name next h = absurd (cc)
 close_wrong b state.End fs name next h = end_wrong (closing b) fs h.0
-
--- no frame is open
-pub close_none : (b : Bool) (s : State) (fs : List Frame) (name : List ℕ) → fs ≡ [] → IsState s fs name → parts_from (parts_in s fs name) (closing b) ≡ None
-close_none b state.Value fs name none h = refl
-close_none b state.ValueOrClose fs name none h = absurd (none_inside false fs none h.0)
-close_none b state.Name fs name none h = refl
-close_none b state.NameOrClose fs name none h = absurd (none_inside true fs none h.0)
-close_none b state.Colon fs name none h = refl
-close_none b state.CommaOrClose fs name none h = let len : length fs ≡ 0 = ap length none in absurd (omega (arith, len, h.0))
-close_none b state.End fs name none h = end_wrong (closing b) fs none
 
 -- ---- a comma and a colon
 
@@ -323,16 +274,6 @@ comma_wrong state.NameOrClose fs name other h = refl
 comma_wrong state.Colon fs name other h = refl
 comma_wrong state.CommaOrClose fs name other h = absurd (cc)
 comma_wrong state.End fs name other h = end_wrong comma fs h.0
-
--- no frame is open
-pub comma_none : (s : State) (fs : List Frame) (name : List ℕ) → fs ≡ [] → IsState s fs name → parts_from (parts_in s fs name) comma ≡ None
-comma_none state.CommaOrClose fs name none h = let len : length fs ≡ 0 = ap length none in absurd (omega (arith, len, h.0))
-comma_none state.Value fs name none h = refl
-comma_none state.ValueOrClose fs name none h = refl
-comma_none state.Name fs name none h = refl
-comma_none state.NameOrClose fs name none h = refl
-comma_none state.Colon fs name none h = refl
-comma_none state.End fs name none h = end_wrong comma fs none
 
 pub colon_fits : (s : State) (fs : List Frame) (name : List ℕ) → is_colon_next s ≡ true →
     parts_from (parts_in s fs name) colon ≡ Some (parts_in state.Value fs name, [])

@@ -17,17 +17,24 @@ tokens_after (suc n) [] = refl
 tokens_after (suc n) (b ∷ bytes) = tokens_after n bytes
 
 -- white space is not a token
-space_first : (b : ℕ) (bytes : List ℕ) → is_space b ≡ true → tokens_behind 0 (b ∷ bytes) ≡ tokens_behind 0 bytes
+pub tokens_space : (b : ℕ) (bytes : List ℕ) → is_space b ≡ true → tokens_behind 0 (b ∷ bytes) ≡ tokens_behind 0 bytes
 unfolding tokens_behind
-space_first b bytes h = cond-true (is_space b) _ _ h
+tokens_space b bytes h = cond-true (is_space b) _ _ h
 
 pub space_more : (bytes : List ℕ) (i : ℕ) → i < length bytes → is_space (get_or bytes i 0) ≡ true →
     tokens_behind 0 (drop (i + 1) bytes) ≡ tokens_behind 0 (drop i bytes)
-space_more bytes i there h = sym (ap (tokens_behind 0) (drop_more bytes i 0 there) ∙ space_first (get_or bytes i 0) (drop (i + 1) bytes) h)
+space_more bytes i there h = sym (ap (tokens_behind 0) (drop_more bytes i 0 there) ∙ tokens_space (get_or bytes i 0) (drop (i + 1) bytes) h)
 
 -- a token followed by others
 abbrev pub before : Token → Option (List Token) → Option (List Token)
 before t found = option_map (λ ts. t ∷ ts) found
+
+-- a token that is found is the first
+pub tokens_first : (b : ℕ) (bs : List ℕ) (found : Option (Token × ℕ)) → is_space b ≡ false → token_at b bs ≡ found →
+    tokens_behind 0 (b ∷ bs) ≡ option_and_then (λ r. before r.0 (tokens_behind (r.1 - 1) bs)) found
+unfolding tokens_behind
+tokens_first b bs found solid is =
+    cond-false (is_space b) _ _ solid ∙ ap (option_and_then (λ (r : Token × ℕ). before r.0 (tokens_behind (r.1 - 1) bs))) is
 
 token_first : (b : ℕ) (bytes : List ℕ) (t : Token) (n : ℕ) → is_space b ≡ false → token_at b bytes ≡ Some (t, n) →
     tokens_behind 0 (b ∷ bytes) ≡ before t (tokens_behind 0 (drop (n - 1) bytes))

@@ -8,7 +8,6 @@ pub mod JsonReadingLemmas
 pub mod JsonReadLemmas
 pub mod JsonExamples
 pub mod JsonErrorLemmas
-pub mod JsonStopLemmas
 pub mod JsonCompletionLemmas
 pub mod JsonPrefixLemmas
 pub mod JsonStringPrefixLemmas

@@ -1,12 +1,12 @@
 //! The tree of a text, with its errors.
 
-ghost use Rattle.std.specs.Prelude.{◌≡◌, map, slice_get, [], Some, IfOk, IfErr, OnOk, OnErr};
+ghost use Rattle.std.specs.Prelude.{◌≡◌, ◌<◌, ◌⊎◌, map, slice_get, [], Some, IfOk, IfErr, OnOk, OnErr};
 ghost use Rattle.rnix_kinds.specs.Lexical.Tokens.{tokens_of};
 ghost use Rattle.rnix_kinds.specs.declared.kinds.SyntaxKind.TheVariants.{NODE_ROOT};
 ghost use Rattle.rnix_green.specs.Forest.{text_of};
 ghost use Rattle.rnix_green.specs.Relatives.{IsNodeIn};
 ghost use Rattle.rnix_green.specs.Splice.{HasOnlyChild, IsSpliced};
-ghost use Rattle.rnix_green.specs.Tree.{Tree, forest_of};
+ghost use Rattle.rnix_green.specs.Tree.{forest_of, item};
 ghost use Rattle.rnix_grammar.specs.Fault.{fault_of};
 ghost use Rattle.rnix_grammar.specs.Parsed.{IsParsed};
 ghost use Rattle.rnix.specs.ParseResult.{root_of};
@@ -90,7 +90,7 @@ impl Parse {
     pub fn set_node(&mut self, number: usize, other: &GreenNode) -> Result<(), AllocError>
         requires there { IsNodeIn self.old.tree number }
         requires single { HasOnlyChild other.now }
-        requires root { (tree : Tree) → IsSpliced self.old.tree number other.now tree → tree.kind ≡ NODE_ROOT }
+        requires root { (0 < number) ⊎ ((item other.now 1).kind ≡ NODE_ROOT) }
         ensures tree { OnOk result (IsSpliced self.old.tree number other.now self.new.tree) }
         ensures faults { OnOk result (self.new.faults ≡ self.old.faults) }
         ensures err { OnErr result (self.new ≡ self.old) }

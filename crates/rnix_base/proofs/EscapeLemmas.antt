@@ -6,7 +6,7 @@ use Rattle.std.{proofs.lemmas.Str.{len_utf8_ascii, len_utf8_bounds}, specs.{Prel
 use Rattle.{std.specs.{Option.MatchOption, Str.Pattern.{StripsPrefix, FindsTextPrefix, LacksTextAt, HasPrefixMatch}}, rnix_kinds.specs.Lexical.Texts.occurs_at}
 use Rattle.{rnix_kinds.specs.Lexical.Texts.begins, rnix_base.specs.Escapes.{Piece, escaped, itself, first_piece, values, unescaped, Begins, Escapes, is_plain}}
 use Rattle.std.{proofs.lemmas.{List.{get_or-take, Sums.{prefix_len-le-length, prefix_len_passes, prefix_len_stops}}, Str.{IsCharBoundary-end, IsCharBoundary-before_ascii}}}
-use Rattle.std.{proofs.Common.{subst, take, length-drop, length-take-le, take-append-drop}, specs.{Str.IsCharBoundary, List.prefix_len, Prelude.{not, ◌&&◌}}}
+use Rattle.std.{proofs.Common.{subst, take, length-drop, length-take-le, take-append-drop}, specs.{Str.IsCharBoundary, List.prefix_len}}
 use denote.Ref.{Bor}
 
 -- the bytes of a character: a first byte, and none below 128 after it
@@ -124,21 +124,6 @@ run_boundary m b text =
     low true b h = grind (arith, nat_tests)
     low false b h = grind (arith, nat_tests)
 
-first_unescaped : (m : Bool) (first : ℕ) (more rest : List ℕ) → ((k : ℕ) → k < length more → 128 ≤ get_or more k 0)
-    → first_piece m (first ∷ (more ++ rest)) ≡ Some record { len = 1; value = first ∷ [] } → unescaped m (first ∷ (more ++ rest)) ≡ first
-    ∷ (more ++ unescaped m rest)
-first_unescaped m first more rest high e = unescaped_step m first (more ++ rest) _ e ∙ ap (λ t. first ∷ t) (unescaped_high m more rest high)
-
--- a character stands for itself if its first byte does
-pub character_begins : (m : Bool) (text value rest : List ℕ) → IsCharacter value → text ≡ value ++ rest → first_piece m text ≡ itself text
-    → Begins m text value rest
-character_begins m text value rest one e free =
-    let whole : text ≡ one.first ∷ (one.more ++ rest) = e ∙ ap (λ t. t ++ rest) one.split in
-    record {
-      split = rw (whole, one.split) (first_unescaped m one.first one.more rest one.high (rw whole at free));
-      shorter = omega (arith, ap length whole, length-append one.more rest);
-    }
-
 -- after a backslash a character stands for itself, unless it is `n`, `r` or `t`
 pub character_escapes : (text value rest : List ℕ) → IsCharacter value → text ≡ value ++ rest → value ≢ codes "n" → value ≢ codes "r" → value ≢ codes "t"
     → Escapes text value rest
@@ -230,13 +215,6 @@ pub escape_begins : (m : Bool) (text more : List ℕ) (r : Option (Bor (List ℕ
     → MatchOption r (unescaped m text ≡ []) (λ p. Begins m text p.0.now p.1.now)
 escape_begins m text more None e h = rw (e, h) (ap (unescaped m) (append-nil (opener m)) ∙ escape_ends m)
 escape_begins m text more (Some p) e h = escape_opens m text more p.0.now p.1.now e h
-
--- where no escape begins, a character stands for itself
-pub char_begins : (m : Bool) (text : List ℕ) (r : Option (Bor (List ℕ) × Bor (List ℕ))) → first_piece m text ≡ itself text
-    → MatchOption r (text ≡ []) (λ p. (c : ℕ) × (p.0.now ≡ encode_utf8 c) × (text ≡ p.0.now ++ p.1.now))
-    → MatchOption r (unescaped m text ≡ []) (λ p. Begins m text p.0.now p.1.now)
-char_begins m text None free h = rw h (unescaped-nil m)
-char_begins m text (Some p) free h = character_begins m text p.0.now p.1.now (is_character h.0 p.0.now h.1) h.2 free
 
 -- what the tests of a text in `''` decide
 pub primes_end : (text : List ℕ) → LacksTextAt (codes "'''") text 0 → LacksTextAt (codes "''$") text 0 → LacksTextAt (codes "''\\") text 0

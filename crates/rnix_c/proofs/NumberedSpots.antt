@@ -1,19 +1,11 @@
 -- Elements of a tree with consecutive numbers.
-use Rattle.std.proofs.Common.{◌≡◌, ℕ, zero, suc, ◌+◌, List, ◌∷◌, map, ap, refl}
+use Rattle.std.proofs.Common.{◌≡◌, ℕ, zero, suc, ◌+◌, List, ◌∷◌, map}
 use Rattle.rnix_green.specs.{Tree.{Tree}, Walk.{Spot, spot_at, counted}}
 
 -- the spots are those of the elements from number `n` on
 pub record AreFrom (t : Tree) (n : ℕ) (spots : List Spot) : Type 0 where
   pub count : ℕ
   pub are : spots ≡ map (spot_at t) (counted n count)
-
-pub from_first : (t : Tree) (n count : ℕ) → AreFrom t n (map (spot_at t) (counted n count))
-from_first t n count = record { count = count; are = refl }
-
--- the first one has the number `n`
-first_of : (t : Tree) (n count : ℕ) (spot : Spot) (spots : List Spot) → spot ∷ spots ≡ map (spot_at t) (counted n count) → spot.1.number ≡ n
-first_of t n zero spot spots is = cc is
-first_of t n (suc count) spot spots is = let same : spot ≡ spot_at t n = cc is in ap (λ (s : Spot). s.1.number) same
 
 -- the others have the numbers from the next one on
 others_of : (t : Tree) (n count : ℕ) (spot : Spot) (spots : List Spot) → spot ∷ spots ≡ map (spot_at t) (counted n count) → AreFrom t (n + 1) spots

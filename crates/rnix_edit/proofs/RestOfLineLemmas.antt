@@ -1,11 +1,10 @@
 -- The elements after a node on its line.
-use Rattle.std.proofs.Common.{◌≡◌, ℕ, ◌<◌, true, false, List, ◌∷◌, length, drop, Option, Some, None, sym, ap, ◌∙◌, arith}
-use Rattle.std.proofs.lemmas.Bool.Decides.{nat_tests}
-use Rattle.std.specs.{Prelude.{◌-◌, nat_lt, if◌then◌else◌}, List.{position_or_len, after_first}, Iterator.YieldsFirstBy}
-use Rattle.rnix_green.specs.{Tree.{Located, item_of, text_at}, Walk.Spot}
+use Rattle.std.proofs.Common.{◌≡◌, ℕ, List, ◌∷◌, drop, Option, Some, None, sym, ap, ◌∙◌}
+use Rattle.std.specs.{Iterator.YieldsFirstBy}
+use Rattle.rnix_green.specs.{Tree.{Located}, Walk.Spot}
 use Rattle.rnix_tree.specs.{Spots.spot_of, declared.element.NodeOrToken.NodeOrToken}
 use Rattle.rnix_edit.specs.declared.line.{Part.Part, RestOfLine.RestOfLine}
-use Rattle.rnix_edit.specs.Line.{is_feed, second_line, part_of, rest_after, rest_from, token_start, closing_from}
+use Rattle.rnix_edit.specs.Line.{part_of, rest_after, rest_from, token_start, closing_from}
 
 -- removing the first element of a walk
 pub first_dropped : (old new : List Spot) (first : Option (NodeOrToken Located Located)) →
@@ -23,17 +22,3 @@ element_passed spots more spot comments end all part so_far next is =
 pub child_passed : (spots more : List Spot) (spot : Spot) (end closing new all : ℕ) → closing_from spots end closing ≡ all → spots ≡ spot ∷ more →
     new ≡ token_start end spot → closing_from more end new ≡ all
 child_passed spots more spot end closing new all so_far next is = ap (closing_from more end) is ∙ sym (ap (λ s. closing_from s end closing) next) ∙ so_far
-
--- a token without a line feed is on one line
-pub one_line : (e : Located) → position_or_len is_feed (text_at e) ≡ length (text_at e) → None ≡ second_line e
-one_line e none =
-    let test : false ≡ nat_lt (position_or_len is_feed (text_at e)) (length (text_at e)) = grind (arith, nat_tests) in
-    ap (λ b. if b then Some ((item_of e).end - length (after_first is_feed (text_at e))) else None) test
-
--- a token with a line feed has a second line
-pub two_lines : (e : Located) (rest : List ℕ) → rest ≡ after_first is_feed (text_at e) → position_or_len is_feed (text_at e) < length (text_at e) →
-    Some ((item_of e).end - length rest) ≡ second_line e
-two_lines e rest is some =
-    let test : true ≡ nat_lt (position_or_len is_feed (text_at e)) (length (text_at e)) = grind (arith, nat_tests) in
-    ap (λ r. Some ((item_of e).end - length r)) is
-    ∙ ap (λ b. if b then Some ((item_of e).end - length (after_first is_feed (text_at e))) else None) test

@@ -156,11 +156,6 @@ end_by t n l = sym (ends_at_next 0 0 None (forest_of t) n (length (text_of (fore
 pub start_there : (t : Tree) (n : ℕ) → n < length (items_of t) → start_at t n ≡ (item t n).start
 start_there t n l = get_or-map (λ (i : Item). i.start) (items_of t) n no_item (length (text_of (forest_of t))) l
 
--- if there is none, it is the end of the text
-pub start_past : (t : Tree) (n : ℕ) → length (items_of t) ≤ n → start_at t n ≡ length (text_of (forest_of t))
-start_past t n l =
-    get_or_past (map (λ (i : Item). i.start) (items_of t)) n (length (text_of (forest_of t))) (omega (arith, length-map (items_of t) (λ (i : Item). i.start)))
-
 -- the number of elements inside one that was read
 pub below_read : (t : Tree) (n : ℕ) (e : Packed) → n < length (items_of t) → IsElement t n e → size_in e - 1 ≡ (item t n).below
 below_read t n e l h = ap (λ s. s - 1) h.size ∙ below_by t n (item t n).is_node l refl

@@ -120,10 +120,6 @@ HasText-after (suc n) empty h = tt
 HasText-after (suc n) (leaf k t f) h = HasText-after n f h.1
 HasText-after (suc n) (node k c f) h = HasText-after n f h.1
 
--- one more leaf is one more tree
-pub tree_count-with_leaf : (k : SyntaxKind) (t : List ℕ) (f : Forest) → tree_count (with_leaf k t f) ≡ tree_count f + 1
-tree_count-with_leaf k t f = tree_count-join f (leaf k t empty)
-
 -- a node that replaces the trees from a position on leaves the trees before it, and one
 pub tree_count-wrapped : (k : SyntaxKind) (p : ℕ) (f : Forest) → p ≤ tree_count f → tree_count (wrapped k p f) ≡ p + 1
 tree_count-wrapped k p f h = omega (arith, tree_count-join (first_trees p f) (node k (trees_after p f) empty), tree_count-first p f h)

@@ -19,4 +19,5 @@ pub mod FirstFromLemmas
 pub mod ContextLemmas
 pub mod SplicedForests
 pub mod SpliceLemmas
+pub mod SplicedRoots
 pub mod OverwrittenNodes

@@ -41,16 +41,8 @@ only_in k (node j c f) h =
 pub only_child : (t : Tree) → HasOnlyChild t → OnlyChild t
 only_child t h = only_in t.kind t.children h
 
--- a root with this only child has one child that is a node
-pub has_only_child : (t : Tree) (k : SyntaxKind) (c : Forest) → t.children ≡ node k c empty → HasOnlyChild t
-has_only_child t k c e =
-    subst (λ f. HasOnlyChild record { kind = t.kind; children = f }) (sym e)
-    (let one : Tree = record { kind = t.kind; children = node k c empty } in
-    let all = elements_in_all one in
-    record { child = record { is_there = omega arith; is_node = refl }; alone = omega arith })
-
 -- the trees after the first
-abbrev later : Forest → Forest
+abbrev pub later : Forest → Forest
 later empty = empty
 later (leaf k t f) = f
 later (node k c f) = f

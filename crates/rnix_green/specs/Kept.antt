@@ -84,3 +84,7 @@ pub record IsKept (t : Tree) (es : List Packed) (text : List ℕ) : Type 0 where
   pub characters : HasText (forest_of t)
   pub short : length text < limit
   pub few : length es < limit
+
+-- some tree has these elements and this text
+abbrev pub AreKept : List Packed → List ℕ → Type 0
+AreKept es text = (t : Tree) × IsKept t es text

@@ -1,7 +1,7 @@
 //! A tree from its elements, as they are stored elsewhere.
 
 ghost use Rattle.std.specs.Prelude.{◌≡◌, [], ◌∷◌, ◌++◌, IfOk, OnOk, OnErr};
-ghost use Rattle.rnix_green.specs.Kept.{tree_from, IsKept};
+ghost use Rattle.rnix_green.specs.Kept.{IsKept, AreKept};
 ghost use Rattle.rnix_green.specs.Packed.{packed};
 
 use crate::green::GreenNode;
@@ -53,8 +53,8 @@ impl ElementList {
 
     /// Returns the tree that has these elements and this text. It copies the text. Nothing is checked.
     pub fn into_tree(self, text: &str) -> Result<GreenNode, AllocError>
-        requires { IsKept (tree_from self text.now) self text.now }
-        ensures { IfOk result (λ tree. tree ≡ tree_from self text.now) }
+        requires { AreKept self text.now }
+        ensures { IfOk result (λ tree. IsKept tree self text.now) }
     {
         let ElementList { elements } = self;
         let text = String::from_str(*elements.allocator(), text)?;

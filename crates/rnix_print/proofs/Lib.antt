@@ -1,3 +1,2 @@
 mod WalkLines
-mod Indented
 mod PrintedLemmas

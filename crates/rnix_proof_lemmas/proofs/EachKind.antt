@@ -1,5 +1,5 @@
 -- What is shown for each listed kind holds of every kind.
-use Rattle.std.proofs.Common.{ℕ, zero, suc, List, [], ◌∷◌, Option, Some, None, get_or, subst}
+use Rattle.std.proofs.Common.{ℕ, zero, suc, List, [], ◌∷◌, get_or, subst}
 use Rattle.rnix_kinds.{specs.{declared.kinds.SyntaxKind.{SyntaxKind, TheVariants.TOKEN_ADD}, SyntaxKind.discriminant_of}, proofs.AllKinds.{all_kinds, kind_at_discriminant}}
 
 -- a property holds of each of some kinds
@@ -15,8 +15,3 @@ each_at P (k ∷ ks) (suc i) d h e = each_at P ks i d h.1 e
 -- a property of each listed kind holds of every kind
 pub each_kind : (P : SyntaxKind → Type 0) → Each P all_kinds → (k : SyntaxKind) → P k
 each_kind P h k = subst P (kind_at_discriminant k TOKEN_ADD) (each_at P all_kinds (discriminant_of k) TOKEN_ADD h h.0)
-
--- a property of no kind and of each listed kind holds of every optional kind
-pub each_next : (P : Option SyntaxKind → Type 0) → P None → Each (λ k. P (Some k)) all_kinds → (next : Option SyntaxKind) → P next
-each_next P n h None = n
-each_next P n h (Some k) = each_kind (λ k. P (Some k)) h k

@@ -48,12 +48,6 @@ pub root_alone : (head : Head) (position : Position) (fs : List Frame) → IsSta
 root_alone head position [] w e = refl
 root_alone head position (g ∷ fs) w e = absurd (true_is_not_false (sym w.1 ∙ ap (may_hold (frame_kind g.position)) e ∙ no_holder (frame_kind g.position)))
 
--- the lowest frame is the root
-pub root_lowest : (head : Head) (position : Position) (fs : List Frame) → IsStackedOn head position fs → fs ≡ []
-    → (frame_kind_of_head head ≡ frame_kind position) × (frame_kind position ≡ Root)
-root_lowest head position [] w e = w
-root_lowest head position (g ∷ fs) w e = absurd (cc)
-
 -- the next position of a row has the same frame kind
 pub next_sort : (position : Position) (after : ℕ) (next : Option SyntaxKind) → IsNext position next after → frame_kind (p.InRow after) ≡ frame_kind position
 next_sort position after None h = h.0

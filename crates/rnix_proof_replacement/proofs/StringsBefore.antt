@@ -10,9 +10,6 @@ use Rattle.rnix_proof_separation.proofs.{Appended.{if_true, if_false, same_byte,
 use Rattle.rnix_proof_separation.proofs.KeptStrings.{piece_of, content_kept, string_stop, stop_opened, opened, closed}
 use Rattle.rnix_proof_replacement.proofs.BeforeBrackets.{is_half, BeginsBracket, byte_same, stop_at}
 
-piece_at : (m : Bool) (x : List ℕ) → piece_len m x ≡ piece_of m (get_or x 0 0) (get_or x 1 0) (get_or x 2 0)
-piece_at m x = refl
-
 -- the third byte of a piece matters only if the second is `$` or `'`
 third_free : (m : Bool) (a b c d : ℕ) → is_half b ≡ false → piece_of m a b c ≡ piece_of m a b d
 third_free true a b c d e = let other : (b == 39) ≡ false = grind (arith, nat_tests) in rw other (grind (arith, nat_tests))

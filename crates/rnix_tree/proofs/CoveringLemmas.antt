@@ -203,10 +203,6 @@ flanked_child t p m child above l h over =
     let inside = below_parent t child p h.here.is_there h.here.parent in
     record { parent = h.here.parent; above = inside.low; low = h.low; high = over }
 
--- or at an element whose parent is the node
-pub flanked_above : (t : Tree) (p m child above : ℕ) → IsFlanked t p m child above → (item t above).parent ≡ Some p → IsOnWayTo t p m above
-flanked_above t p m child above h e = (let c = h.climbing in record { parent = e; above = c.above; low = c.low; high = c.high })
-
 -- the element above has a parent
 pub flanked_goes : (t : Tree) (p m child above : ℕ) → p < length (items_of t) → m ≤ p + (item t p).below → IsFlanked t p m child above
     → (item t above).parent ≡ None → ⊥

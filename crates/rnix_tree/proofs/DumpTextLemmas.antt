@@ -1,5 +1,5 @@
 -- A walk over an element prints the element's lines with texts.
-use Rattle.std.proofs.Common.{◌≡◌, ℕ, ◌+◌, ◌-◌, List, [], ◌∷◌, ◌++◌, map, true, false, codes, Option, Some, None, Result, refl, ap, sym, subst, ◌∙◌, arith}
+use Rattle.std.proofs.Common.{◌≡◌, ℕ, ◌+◌, ◌-◌, List, [], ◌∷◌, ◌++◌, map, false, codes, Option, Some, None, Result, refl, ap, sym, subst, ◌∙◌, arith}
 use Rattle.std.{proofs.{Common.{append_assoc, append-nil, IfSome, IsOk}, lemmas.List.map-append, Output.has_written_styled_append}, specs.Fmt.{◌++?◌, IsFlush}}
 use Rattle.std.specs.Fmt.{IsPlainFormatter, DisplaysOnOk, DisplaysStyledOnOk, HasWrittenStyled, WritesStyledOnOk, WritesInCalls, formatter_writer}
 use Rattle.std.specs.{Fmt.InlineText.{AppendsIfIntact, IsIntact, inline_text}, List.{FoldsTo, concat}, declared.fmt.{Error.Error, Formatter.Formatter}}
@@ -66,14 +66,6 @@ entered o all depth next remaining rest event e h steps is deeper =
     ∙ ap (λ x. o ++? event_texts depth (event_of x ∷ rest)) (sym is)
     ∙ ap (λ x. o ++? event_texts depth x) (sym steps)
     ∙ h
-
--- when an element is left, the lines stay as they are
-pub remaining_behind : (o all : Option (List ℕ)) (depth next : ℕ) (remaining rest : List Event) (event : Event)
-    → o ++? event_texts depth remaining ≡ all → remaining ≡ event ∷ rest → event.0 ≡ false → next ≡ depth - 1 → o ++? event_texts next rest ≡ all
-remaining_behind o all depth next remaining rest (true, spot) h steps is back = absurd (cc)
-remaining_behind o all depth next remaining rest (false, spot) h steps is back =
-    ap (λ x. o ++? event_texts x rest) back ∙ ap (λ x. o ++? x) (sym (nothing_first (event_texts (depth - 1) rest)))
-    ∙ ap (λ x. o ++? event_texts depth x) (sym steps) ∙ h
 
 -- when no event is left, the lines so far are those of the element
 pub finished : (e : Located) (o : Option (List ℕ)) (depth : ℕ) (remaining : List Event) → o ++? event_texts depth remaining ≡ event_texts 0 (preorder_of e)

@@ -129,10 +129,6 @@ leaves t root m there inside =
         choose true e x q f g = f e
         choose false e x q f g = g
 
--- a walk is within its root at first
-pub begins : (t : Tree) (root : ℕ) → root < length (items_of t) → IsInside t root root
-begins t root l = record { low = omega arith; high = omega arith; there = l }
-
 -- a walk from its root on is the whole walk
 pub whole_walk : (t : Tree) (root : ℕ) → root < length (items_of t)
     → from_enter root root (part_at record { tree = t; number = root }) ≡ steps_from root (part_at record { tree = t; number = root })

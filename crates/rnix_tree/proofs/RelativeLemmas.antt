@@ -1,9 +1,9 @@
 -- The siblings and the children of an element.
 use Rattle.std.proofs.Common.{is_some, ◌≡◌, ℕ, zero, suc, ◌+◌, ◌-◌, ◌≤◌, ◌<◌, length, Option, Some, None, true, false, refl, sym, ◌∙◌, arith, inl, inr}
 use Rattle.{std.proofs.lemmas.{Bool.cases_lt, Option.same_Some}, rnix_green.specs.{Tree.{Tree, items_of, item}, Relatives.{located, IsFirst, IsLast, IsChild}}}
-use Rattle.rnix_green.{specs.Relatives.{IsSibling, IsNodeIn, IsSiblingNode}, proofs.{SiblingLemmas.next_inside, ParentLemmas.parent_is_node}}
+use Rattle.rnix_green.{specs.Relatives.{IsSibling, IsSiblingNode}, proofs.{SiblingLemmas.next_inside, ParentLemmas.parent_is_node}}
 use Rattle.rnix_green.proofs.{ParentLemmas.parent_is_before, InsideLemmas.{held, ends_inside, first_child_of, below_parent, sibling_behind, has_parent}}
-use Rattle.rnix_tree.specs.Around.{IsNodeIfAny, IsOnWayTo, FirstNodeFrom, LastNodeFrom}
+use Rattle.rnix_tree.specs.Around.{IsNodeIfAny, IsOnWayTo}
 
 -- an element inside another one is no sibling of it
 pub not_beside : (t : Tree) (n p m : ℕ) → n < length (items_of t) → (item t n).parent ≡ Some p → n < m → m ≤ n + (item t n).below → (item t m).parent ≡ Some p
@@ -159,61 +159,6 @@ left_ahead t (Some k) = 1 + (length (items_of t) - k)
 abbrev pub left_back : Option ℕ → ℕ
 left_back None = 0
 left_back (Some k) = 1 + k
-
--- the nodes among siblings, where `Q` holds of the siblings
-module _ (t : Tree) (Q : ℕ → Type 0) (beside : (c m : ℕ) → Q c → Q m → IsSibling record { tree = t; number = c } m)
-    (back : (c m : ℕ) → Q c → IsSibling record { tree = t; number = c } m → Q m) where
-  pub first_with : (n : ℕ) (start r : Option ℕ) → IsFirst Q n start → FirstNodeFrom t start r → IsFirst (λ m. Q m × IsNodeIn t m) n r
-  first_with n None None h e = λ m low q. h m low q.0
-  first_with n None (Some r) h e = absurd (cc)
-  first_with n (Some c) None h none = λ m low q. elim (cases_lt m c) [
-    | inl before ↦ h.2 m low before q.0
-    | inr behind ↦ none m behind (beside c m h.1 q.0, q.1)
-  ]
-  first_with n (Some c) (Some r) h found = (
-    omega (arith, h.0, found.0),
-    (back c r h.1 found.1.0, found.1.1),
-    λ m low high q.
-        elim (cases_lt m c) [
-          | inl before ↦ h.2 m low before q.0
-          | inr behind ↦ found.2 m behind high (beside c m h.1 q.0, q.1)
-        ],
-  )
-
-  pub last_with : (n : ℕ) (start r : Option ℕ) → IsLast Q n start → LastNodeFrom t start r → IsLast (λ m. Q m × IsNodeIn t m) n r
-  last_with n None None h e = λ m low q. h m low q.0
-  last_with n None (Some r) h e = absurd (cc)
-  last_with n (Some c) None h none = λ m low q. elim (cases_lt c m) [
-    | inl behind ↦ h.2 m behind low q.0
-    | inr before ↦ none m before (beside c m h.1 q.0, q.1)
-  ]
-  last_with n (Some c) (Some r) h found = (
-    omega (arith, h.0, found.0),
-    (back c r h.1 found.1.0, found.1.1),
-    λ m low high q.
-        elim (cases_lt c m) [
-          | inl behind ↦ h.2 m behind high q.0
-          | inr before ↦ found.2 m low before (beside c m h.1 q.0, q.1)
-        ],
-  )
-
--- the children, and the siblings, of an element are siblings of one another
-module _ (t : Tree) (n : ℕ) where
-  pub child_beside : (c m : ℕ) → IsChild record { tree = t; number = n } c → IsChild record { tree = t; number = n } m
-      → IsSibling record { tree = t; number = c } m
-  child_beside c m h k = record { is_there = k.is_there; parent = k.parent ∙ sym h.parent }
-
-  pub child_back : (c m : ℕ) → IsChild record { tree = t; number = n } c → IsSibling record { tree = t; number = c } m
-      → IsChild record { tree = t; number = n } m
-  child_back c m h k = record { is_there = k.is_there; parent = k.parent ∙ h.parent }
-
-  pub sibling_beside : (c m : ℕ) → IsSibling record { tree = t; number = n } c → IsSibling record { tree = t; number = n } m
-      → IsSibling record { tree = t; number = c } m
-  sibling_beside c m h k = record { is_there = k.is_there; parent = k.parent ∙ sym h.parent }
-
-  pub sibling_back : (c m : ℕ) → IsSibling record { tree = t; number = n } c → IsSibling record { tree = t; number = c } m
-      → IsSibling record { tree = t; number = n } m
-  sibling_back c m h k = record { is_there = k.is_there; parent = k.parent ∙ h.parent }
 
 -- the parent of an element is a node
 pub parent_if_any : (t : Tree) (n : ℕ) (parent : Option ℕ) → n < length (items_of t) → (item t n).parent ≡ parent → IsNodeIfAny t parent

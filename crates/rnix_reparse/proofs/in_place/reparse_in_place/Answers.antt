@@ -2,10 +2,12 @@ use Rattle.std.proofs.Common.{◌≡◌, [], map, true-eqb, ap, sym, subst, ◌�
 use Rattle.std.specs.Prelude.{IfSome}
 use Rattle.std.specs.Str.{IsUtf8}
 use Rattle.std.proofs.lemmas.List.{nil_from_length}
+use Rattle.rnix_kinds.specs.declared.kinds.SyntaxKind.TheVariants.{NODE_ROOT}
 use Rattle.rnix_kinds.specs.Lexical.Tokens.{tokens_of}
 use Rattle.rnix_green.specs.Forest.{text_of}
 use Rattle.rnix_green.specs.Range.{bounds_of}
 use Rattle.rnix_green.specs.Tree.{Tree, forest_of}
+use Rattle.rnix_green.proofs.SplicedRoots.{inner_or_root}
 use Rattle.rnix_grammar.specs.Fault.{fault_of}
 use Rattle.rnix_grammar.specs.Parsed.{IsParsed}
 use Rattle.rnix_reparse.specs.EditedRange.{edited}
@@ -33,9 +35,8 @@ set_node-requires-clause-root c =
     let replacement = c.args.replacement.now in
     let found : IsReparsedNode g n u range replacement =
     subst (λ o. IfSome o (λ new. IsReparsedNode g new.number new.parse.tree range replacement)) c.in-Some.is c.in_ok-new.ensures in
-    λ v spliced.
-    new_root t w v n range replacement
-    (reparsed_same g u t w n range replacement found c.green.ensures.tree c.green-in-Some.ensures.tree) spliced
+    let here = reparsed_same g u t w n range replacement found c.green.ensures.tree c.green-in-Some.ensures.tree in
+    inner_or_root t n w NODE_ROOT here.single (λ v spliced. new_root t w v n range replacement here spliced)
 
 pub returns-in-Some-clause-new : goal.returns-in-Some-clause-new
 returns-in-Some-clause-new c =
