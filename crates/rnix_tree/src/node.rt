@@ -53,6 +53,13 @@ impl<'t> SyntaxNode<'t> {
         }
     }
 
+    /// Returns the node's number: how many nodes and tokens of the tree begin before it, where a node begins before those inside it.
+    pub fn number(&self) -> usize
+        ensures { result ≡ self.now.number }
+    {
+        self.number
+    }
+
     /// Returns the node's kind.
     pub fn kind(&self) -> SyntaxKind
         ensures { result ≡ (item_of self.now).kind }
