@@ -5,7 +5,7 @@ use Rattle.rnix_kinds.specs.declared.kinds.SyntaxKind.TheVariants as k
 use Rattle.rnix_base.specs.Select.{child_of, nodes_of}
 use Rattle.rnix.specs.NodeKinds.{is_attr, is_expr}
 use Rattle.rnix_green.specs.{Equality.{same_kind}, Relatives.{parent_of}, Tree.{Located, item_of}}
-use Rattle.nix_lints.specs.DefinedNames.{Name, start_of, value_start, definition_at, inherited_at, names_at, names_below, names_from, names_of, path_names}
+use Rattle.nix_lints.specs.DefinedNames.{Name, set_number, definition_at, inherited_at, names_at, names_below, names_from, names_of, path_names}
 use Rattle.nix_lints.specs.{Attributes.AddsNames, declared.attributes.Attributes.Attributes}
 use Rattle.nix_lints.proofs.RepeatedLemmas.{AddsSome, adds_begun, adds_next, adds_all, adds_none}
 
@@ -20,8 +20,8 @@ no_entry e one two is also no_inherit no_value =
         names_below parent e ≡ []
     below None inherits binds = refl
     below (Some set) inherits binds =
-        let path = path_names (start_of set) (value_start (child_of is_expr 0 e)) (child_of (same_kind k.NODE_ATTRPATH) 0 e) in
-        ap (λ b. if b then map (inherited_at (start_of set)) (nodes_of is_attr e) else (if same_kind k.NODE_ATTRPATH_VALUE (item_of e).kind then path else []))
+        let path = path_names set.number (set_number (child_of is_expr 0 e)) (child_of (same_kind k.NODE_ATTRPATH) 0 e) in
+        ap (λ b. if b then map (inherited_at set.number) (nodes_of is_attr e) else (if same_kind k.NODE_ATTRPATH_VALUE (item_of e).kind then path else []))
         inherits ∙ ap (λ b. if b then path else []) binds
 
 -- one more node
@@ -40,7 +40,7 @@ inherited_next owner old mid new all before after e some first more =
 
 -- one more name of a path, which another one follows
 pub path_next : (old mid new : Attributes) (all : List Name) (owner start : ℕ) (continues : Bool) (set : Option ℕ) (e next : Located)
-    (before after : List Located) → start ≡ start_of e → AddsSome old mid (names_from owner continues set e before) all → before ≡ next ∷ after →
+    (before after : List Located) → start ≡ e.number → AddsSome old mid (names_from owner continues set e before) all → before ≡ next ∷ after →
     AddsNames mid new (definition_at owner continues (Some start) e ∷ []) → AddsSome old new (names_from start true set next after) all
 path_next old mid new all owner start continues set e next before after at some first more =
     adds_next old mid new (names_from owner continues set e before) (definition_at owner continues (Some start) e ∷ [])

@@ -1,8 +1,8 @@
 -- Names that are added one after another, and the repetitions among them.
-use Rattle.std.proofs.Common.{◌≡◌, List, [], ◌∷◌, ◌++◌, map, Option, Some, None, refl, ap, sym, ◌∙◌, subst}
+use Rattle.std.proofs.Common.{◌≡◌, ℕ, List, [], ◌∷◌, ◌++◌, map, Option, Some, None, refl, ap, sym, ◌∙◌, subst}
 use Rattle.std.proofs.lemmas.List.{append_assoc, append-nil}
 use Rattle.std.specs.Option.{option_to_list}
-use Rattle.nix_lints.specs.Attributes.{AddsNames, IsEmpty, IsTable}
+use Rattle.nix_lints.specs.Attributes.{AddsNames, IsEmpty, IsTable, attribute_by}
 use Rattle.nix_lints.specs.Repeated.{Known, nothing, earlier, repetition, repetition_of, repetitions_after, with_name, with_names}
 use Rattle.nix_lints.specs.DefinedNames.{Name}
 use Rattle.nix_lints.specs.declared.{attributes.Attributes.Attributes, repeated.Repeated.Repeated}
@@ -62,3 +62,8 @@ adds_next old mid new remaining names after all some first more = record {
 pub adds_all : (old new : Attributes) (remaining all : List Name) → AddsSome old new remaining all → remaining ≡ [] → AddsNames old new all
 adds_all old new remaining all some none =
     subst (AddsNames old new) (sym (append-nil some.done) ∙ ap (λ rest. some.done ++ rest) (sym none) ∙ some.whole) some.are
+
+-- once all names of a text have been added, the map contains their homes
+pub homes_known : (old new : Attributes) (names : List Name) → IsEmpty old → AddsNames old new names → (owner : ℕ) →
+    attribute_by new.attributes owner ≡ (with_names nothing names).attribute owner
+homes_known old new names none adds = (adds.table nothing (empty_table old.attributes old.firsts none.attributes none.firsts)).attributes_are

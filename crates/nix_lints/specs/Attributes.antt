@@ -11,6 +11,7 @@ use Rattle.std.specs.declared.cmp.Ordering.{Ordering}
 use Rattle.nix_lints.specs.Repeated.{Known, with_names, repetition_of, repetitions_after}
 use Rattle.nix_lints.specs.DefinedNames.{Name, site_of}
 use Rattle.nix_lints.specs.declared.attributes.Attributes.{Attributes}
+use Rattle.nix_lints.specs.declared.homes.Homes.{Homes}
 use Rattle.nix_lints.specs.declared.definition.NameSite.{NameSite}
 
 -- an attribute or a set, and the name of an attribute in it
@@ -25,9 +26,13 @@ FirstNames = BTreeMap Key NameSite
 abbrev pub compare_key : ℕ → List ℕ → Key → Ordering
 compare_key home text key = ordering_then (nat_cmp home key.0) (slice_cmp nat_cmp text (cow_str_bytes key.1))
 
--- the attribute of the owner that begins at an offset
+-- the attribute of the owner with a number
 abbrev pub attribute_by : BTreeMap ℕ ℕ → ℕ → ℕ
-attribute_by attributes start = unwrap_or (get nat_cmp attributes start) start
+attribute_by attributes owner = unwrap_or (get nat_cmp attributes owner) owner
+
+-- the home of an owner
+abbrev pub home_by : Homes → ℕ → ℕ
+home_by homes owner = attribute_by homes.homes owner
 
 -- the first name of an attribute
 abbrev pub first_by : FirstNames → ℕ → List ℕ → Option NameSite

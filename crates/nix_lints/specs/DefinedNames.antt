@@ -14,8 +14,8 @@ use Rattle.rnix.specs.NodeKinds.{is_attr, is_expr}
 use Rattle.nix_lints.specs.declared.definition.Definition.{Definition}
 use Rattle.nix_lints.specs.declared.definition.NameSite.{NameSite}
 
--- where a name is written. Its owner is the name before it in its path, or else the set or `let` that contains its entry; the owner is identified by where
--- it begins. `inner` is the owner of the names inside its attribute: the set that is its value, or else the name itself. The rest says whether it follows
+-- where a name is written. Its owner is the name before it in its path, or else the set or `let` that contains its entry; the owner is identified by its
+-- number. `inner` is the owner of the names inside its attribute: the set that is its value, or else the name itself. The rest says whether it follows
 -- another name in its path, and whether other entries may add names to its attribute, because its path continues or its value is a set
 pub record Site : Type 0 where
   pub extent : Extent
@@ -47,25 +47,21 @@ named text site = record { text = text; site = site }
 abbrev pub name_from : Definition → Name
 name_from definition = named (option_map cow_str_bytes definition.text) (site_of definition.name_site)
 
--- where a node begins
-abbrev pub start_of : Located → ℕ
-start_of e = (extent_of e).start
-
 -- the set in an expression, possibly in parentheses
 abbrev pub set_of : Located → Option Located
 set_of e = if same_kind k.NODE_ATTR_SET (item_of (without_parens e)).kind then Some (without_parens e) else None
 
--- where the set in an expression begins, if there is one
-abbrev pub value_start : Option Located → Option ℕ
-value_start None = None
-value_start (Some e) = option_map start_of (set_of e)
+-- the number of the set in an expression, if there is one
+abbrev pub set_number : Option Located → Option ℕ
+set_number None = None
+set_number (Some e) = option_map (λ set. set.number) (set_of e)
 
 -- a node as a name, with the owner of the names inside its attribute if other entries may add to it
 abbrev pub definition_at : ℕ → Bool → Option ℕ → Located → Name
 definition_at owner continues inner e = named (static_name e) record {
   extent = extent_of e;
   owner = owner;
-  inner = unwrap_or inner (start_of e);
+  inner = unwrap_or inner e.number;
   continues = continues;
   is_open = is_some inner;
 }
@@ -74,13 +70,13 @@ definition_at owner continues inner e = named (static_name e) record {
 abbrev pub inherited_at : ℕ → Located → Name
 inherited_at owner e = definition_at owner false None e
 
--- the names of a path; the value may be a set, which begins at an offset
+-- the names of a path; the value may be a set, which has a number
 abbrev pub names_from : ℕ → Bool → Option ℕ → Located → List Located → List Name
 names_from owner continues set e [] = definition_at owner continues set e ∷ []
 names_from owner continues set e (next ∷ more) =
-    definition_at owner continues (Some (start_of e)) e ∷ names_from (start_of e) true set next more
+    definition_at owner continues (Some e.number) e ∷ names_from e.number true set next more
 
--- the names of a path, given where the set that is its value begins
+-- the names of a path, given the number of the set that is its value
 abbrev pub names_of : ℕ → Option ℕ → List Located → List Name
 names_of owner set [] = []
 names_of owner set (e ∷ more) = names_from owner false set e more
@@ -94,9 +90,9 @@ path_names owner set (Some path) = names_of owner set (nodes_of is_attr path)
 abbrev pub names_below : Option Located → Located → List Name
 names_below None e = []
 names_below (Some set) e =
-    if same_kind k.NODE_INHERIT (item_of e).kind then map (inherited_at (start_of set)) (nodes_of is_attr e)
+    if same_kind k.NODE_INHERIT (item_of e).kind then map (inherited_at set.number) (nodes_of is_attr e)
     else (if same_kind k.NODE_ATTRPATH_VALUE (item_of e).kind
-    then path_names (start_of set) (value_start (child_of is_expr 0 e)) (child_of (same_kind k.NODE_ATTRPATH) 0 e)
+    then path_names set.number (set_number (child_of is_expr 0 e)) (child_of (same_kind k.NODE_ATTRPATH) 0 e)
     else [])
 
 -- the names that a node defines, if it is an entry

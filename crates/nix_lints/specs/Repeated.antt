@@ -7,7 +7,7 @@ use Rattle.rnix_green.specs.Tree.{Located}
 use Rattle.nix_lints.specs.DefinedNames.{Site, Name, names_in}
 use Rattle.nix_lints.specs.declared.repeated.Repeated.{Repeated}
 
--- what some names define. A set is identified by where it begins, and an attribute by `inner` of the first name that defines it. `attribute` maps the owner
+-- what some names define. A set is identified by its number, and an attribute by `inner` of the first name that defines it. `attribute` maps the owner
 -- of a name to the set or attribute that has the name inside it; `first` maps a set or attribute, and a text, to the first name with this text inside it
 pub record Known : Type 0 where
   pub attribute : ℕ → ℕ
@@ -75,6 +75,14 @@ repetition (Some first) own = if extends first own then [] else (own.extent, fir
 abbrev pub repetitions_after : Known → List Name → List Repetition
 repetitions_after known [] = []
 repetitions_after known (own ∷ more) = repetition (earlier known own) own.site ++ repetitions_after (with_name known own) more
+
+-- what all names of a text define
+abbrev pub known_in : Located → Known
+known_in root = with_names nothing (names_in root)
+
+-- the home of the names that have an owner with a number: the set or the name by which their attribute is defined first
+abbrev pub home_in : Located → ℕ → ℕ
+home_in root owner = (known_in root).attribute owner
 
 -- the repetitions of a text, in the order of the entries
 abbrev pub repeated_in : Located → List Repetition

@@ -19,20 +19,20 @@ type Firsts<'t> = BTreeMap<(usize, CowStr<'t>), NameSite>;
 /// The attributes that the names so far define.
 #[derive(Drop)]
 pub struct Attributes<'t> {
-    // Maps the start of a set or a name to that of its attribute, if an earlier name defines the attribute.
-    attributes: BTreeMap<usize, usize>,
+    /// Maps the number of a set or a name to that of its attribute, if an earlier name defines the attribute.
+    pub attributes: BTreeMap<usize, usize>,
     firsts: Firsts<'t>,
     /// The names that define an attribute again that cannot be defined again, in order.
     pub repeated: Vec<Repeated>,
 }
 
-// Returns the attribute of the set or name at an offset, or the offset itself if the map has no entry for it.
-fn attribute_of(attributes: &BTreeMap<usize, usize>, start: usize) -> usize
-    ensures { result ≡ attribute_by attributes.now start }
+/// Returns the attribute of the set or name with a number, or the number itself if the map has no entry for it.
+pub fn attribute_of(attributes: &BTreeMap<usize, usize>, owner: usize) -> usize
+    ensures { result ≡ attribute_by attributes.now owner }
 {
-    match attributes.get(&start) {
+    match attributes.get(&owner) {
         Some(attribute) => *attribute,
-        None => start,
+        None => owner,
     }
 }
 
@@ -62,8 +62,8 @@ fn add_inner(
     own: NameSite,
     attributes: &mut BTreeMap<usize, usize>,
 ) -> Result<(), AllocError>
-    ensures { OnOk result ((start : ℕ) →
-        attribute_by attributes.new start ≡ (if own.is_open && (own.inner == start) then first.inner else attribute_by attributes.old start)) }
+    ensures { OnOk result ((owner : ℕ) →
+        attribute_by attributes.new owner ≡ (if own.is_open && (own.inner == owner) then first.inner else attribute_by attributes.old owner)) }
 {
     if !own.is_open {
         return Ok(());

@@ -8,9 +8,9 @@ use std::borrow::CowStr;
 pub struct NameSite {
     /// The name.
     pub range: TextRange,
-    /// The start of the set or `let` with the entry, or of the name before this one in its path.
+    /// The number of the set or `let` with the entry, or of the name before this one in its path.
     pub owner: usize,
-    /// The owner of the names inside its attribute: the start of the set that is its value, or of the name itself if there is none.
+    /// The owner of the names inside its attribute: the number of the set that is its value, or of the name itself if there is none.
     pub inner: usize,
     /// Whether it follows another name in its path.
     pub continues: bool,

@@ -9,7 +9,7 @@ ghost use Rattle.rnix.specs.AttrName.{static_name};
 ghost use Rattle.rnix.specs.NodeKinds.{is_attr, is_expr};
 ghost use Rattle.rnix.specs.Sums.{attr_node};
 ghost use Rattle.nix_lints.specs.Attributes.{AddsNames};
-ghost use Rattle.nix_lints.specs.DefinedNames.{start_of, set_of, value_start, definition_at, inherited_at, names_of, path_names, names_at};
+ghost use Rattle.nix_lints.specs.DefinedNames.{set_of, set_number, definition_at, inherited_at, names_of, path_names, names_at};
 
 use crate::attributes::Attributes;
 use crate::definition::{Definition, NameSite};
@@ -17,13 +17,6 @@ use rnix::ast::{AstNode, Attr, Attrpath, AttrpathValue, Inherit, without_parens}
 use rnix::{SyntaxKind, SyntaxNode};
 use std::alloc::{AllocError, Global};
 use std::borrow::CowStr;
-
-// Returns the start of a node.
-fn start_of(node: &SyntaxNode<'_>) -> usize
-    ensures { result ≡ start_of node.now }
-{
-    node.text_range().start()
-}
 
 // Returns the set in an expression, possibly in parentheses.
 fn set_of<'t>(expr: &SyntaxNode<'t>) -> Option<SyntaxNode<'t>>
@@ -37,13 +30,13 @@ fn set_of<'t>(expr: &SyntaxNode<'t>) -> Option<SyntaxNode<'t>>
     }
 }
 
-// Returns the start of the set that is the value of an entry.
-fn value_start<'t>(entry: &AttrpathValue<'t>) -> Option<usize>
-    ensures { result ≡ value_start (child_of is_expr 0 entry.now) }
+// Returns the number of the set that is the value of an entry.
+fn set_number<'t>(entry: &AttrpathValue<'t>) -> Option<usize>
+    ensures { result ≡ set_number (child_of is_expr 0 entry.now) }
 {
     let value = entry.value()?;
     let set = set_of(value.syntax())?;
-    Some(start_of(&set))
+    Some(set.number())
 }
 
 // Returns the text of a name, if it is an identifier.
@@ -87,14 +80,14 @@ fn add_name<'t>(
         name_site: NameSite {
             range,
             owner,
-            inner: inner.unwrap_or(range.start()),
+            inner: inner.unwrap_or(attr.syntax().number()),
             continues,
             is_open: inner.is_some(),
         },
     })
 }
 
-// Adds the names of a path whose entry has a set as its value that begins at `set`, if there is one.
+// Adds the names of a path whose entry has the set with the number `set` as its value, if there is one.
 fn add_path<'t>(
     alloc: Global,
     owner: usize,
@@ -111,9 +104,9 @@ fn add_path<'t>(
     let mut before = owner;
     let mut continues = false;
     for attr in attrs {
-        let start = start_of(last.syntax());
-        add_name(alloc, &last, before, continues, Some(start), attributes)?;
-        before = start;
+        let number = last.syntax().number();
+        add_name(alloc, &last, before, continues, Some(number), attributes)?;
+        before = number;
         continues = true;
         last = attr;
     }
@@ -143,10 +136,10 @@ fn add_entry<'t>(
     attributes: &mut Attributes<'t>,
 ) -> Result<(), AllocError>
     ensures { OnOk result (AddsNames attributes.old attributes.new
-        (path_names owner (value_start (child_of is_expr 0 entry.now)) (child_of (same_kind k.NODE_ATTRPATH) 0 entry.now))) }
+        (path_names owner (set_number (child_of is_expr 0 entry.now)) (child_of (same_kind k.NODE_ATTRPATH) 0 entry.now))) }
 {
     match entry.attrpath() {
-        Some(path) => add_path(alloc, owner, value_start(entry), &path, attributes),
+        Some(path) => add_path(alloc, owner, set_number(entry), &path, attributes),
         None => Ok(()),
     }
 }
@@ -161,13 +154,13 @@ pub fn add_names<'t>(
 {
     if let Some(inherit) = Inherit::cast(node.clone()) {
         return match node.parent() {
-            Some(set) => add_inherited(alloc, start_of(&set), &inherit, attributes),
+            Some(set) => add_inherited(alloc, set.number(), &inherit, attributes),
             None => Ok(()),
         };
     }
     if let Some(entry) = AttrpathValue::cast(node.clone()) {
         return match node.parent() {
-            Some(set) => add_entry(alloc, start_of(&set), &entry, attributes),
+            Some(set) => add_entry(alloc, set.number(), &entry, attributes),
             None => Ok(()),
         };
     }

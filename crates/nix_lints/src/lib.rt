@@ -5,7 +5,9 @@ mod attributes;
 mod definition;
 mod entries;
 mod foreign;
+mod homes;
 mod repeated;
 
 pub use foreign::{ForeignSpace, foreign_spaces};
+pub use homes::Homes;
 pub use repeated::{Repeated, repeated_attributes};

@@ -10,3 +10,9 @@ pub mod ScopeExamples
 pub mod AlikeLemmas
 pub mod AlikeExamples
 pub mod PlainLemmas
+pub mod TrieLemmas
+pub mod NameMapLemmas
+pub mod OpeningLemmas
+pub mod PlaceLemmas
+pub mod AddedOwnedLemmas
+pub mod MergedLemmas

@@ -8,3 +8,9 @@ pub mod Bound
 pub mod Occurrences
 pub mod Resolving
 pub mod Alike
+pub mod Owners
+pub mod Merged
+pub mod Added
+pub mod Places
+pub mod Tries
+pub mod NameMaps

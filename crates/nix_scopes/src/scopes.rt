@@ -6,8 +6,8 @@ ghost use Rattle.nix_scopes.specs.Binders.{is_recursive, is_binder, is_scope};
 use rnix::ast::{AstNode, AttrSet};
 use rnix::{SyntaxKind, SyntaxNode};
 
-// Returns whether a node is a set with `rec`.
-fn is_recursive(node: &SyntaxNode<'_>) -> bool
+/// Returns whether a node is a set with `rec`.
+pub fn is_recursive(node: &SyntaxNode<'_>) -> bool
     ensures { result ≡ is_recursive node.now }
 {
     match AttrSet::cast(node.clone()) {

@@ -19,8 +19,8 @@ use std::alloc::{AllocError, Global};
 use std::borrow::CowStr;
 use std::collections::BTreeMap;
 
-// A name, after a number made from some of its bytes. Most names differ in these numbers.
-type Key<'t> = (u64, NameText<'t>);
+/// A name, after a number made from some of its bytes. Most names differ in these numbers.
+pub type Key<'t> = (u64, NameText<'t>);
 
 /// The numbers of a scope's bindings: from the first up to, but not including, the end.
 #[derive(Clone, Copy)]
@@ -106,15 +106,15 @@ fn fingerprint_of(text: &str) -> u64
     fingerprint_in(bytes)
 }
 
-// Returns the key of a name that is a part of the text.
-fn part_key<'t>(text: &'t str) -> Key<'t>
+/// Returns the key of a name that is a part of the text.
+pub fn part_key<'t>(text: &'t str) -> Key<'t>
     ensures { IsKeyOf text.now result }
 {
     (fingerprint_of(text), NameText::Borrowed(text))
 }
 
-// Returns the key of a name.
-fn key_of<'t>(text: &CowStr<'t>) -> Result<Key<'t>, AllocError>
+/// Returns the key of a name.
+pub fn key_of<'t>(text: &CowStr<'t>) -> Result<Key<'t>, AllocError>
     ensures { IfOk result (IsKeyOf (cow_str_bytes text.now)) }
 {
     let fingerprint = fingerprint_of(text.as_str());
@@ -141,9 +141,9 @@ fn outside(number: Option<usize>, first: usize, shadowed: &[Option<usize>]) -> O
     }
 }
 
-// Returns a copy of a name's text. Allocates only if the text was allocated.
+/// Returns a copy of a name's text. Allocates only if the text was allocated.
 #[inline(always)]
-fn copied<'t>(text: &CowStr<'t>) -> Result<CowStr<'t>, AllocError>
+pub fn copied<'t>(text: &CowStr<'t>) -> Result<CowStr<'t>, AllocError>
     ensures { IfOk result (λ copy. cow_str_bytes copy ≡ cow_str_bytes text.now) }
 {
     match text {
