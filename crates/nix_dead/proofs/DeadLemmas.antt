@@ -3,7 +3,7 @@ use Rattle.std.proofs.Common.{◌≡◌, ℕ, suc, ◌+◌, ◌<◌, ◌==◌, L
 use Rattle.std.{proofs.{Common.append_assoc, lemmas.List.{append-nil, take_more, length-take-le, Sorted.IsPermutation-map}}, specs.Prelude.{◌&&◌, ◌||◌, not}}
 use Rattle.{std.specs.{Cow.cow_str_bytes, Prelude.if◌then◌else◌, List.{list_any, Sorted.IsPermutation}, BTreeSet.BTreeSet}, nix_scopes.specs.declared.resolution.Binding.Binding}
 use Rattle.nix_scopes.specs.{declared.resolution.Reference.Reference, Bound.{bound_of, resolved_of, AreFirst}, Occurrences.is_number, Scopes.{Bound, Resolved}}
-use Rattle.{nix_scopes.specs.Scopes.{number_in, bindings_in, resolved_in}, rnix_green.specs.Tree.Located, nix_dead.specs.declared.dead.Name.Name}
+use Rattle.{nix_scopes.specs.{Scopes.number_in, Resolved.{bindings_in, resolved_in}}, rnix_green.specs.Tree.Located, nix_dead.specs.declared.dead.Name.Name}
 use Rattle.nix_dead.specs.Dead.{listed_name, refers, is_reportable, listed, is_used, is_dead, dead_from, dead_in, marked, AreMarked, unmarked, unmarked_from}
 use Rattle.nix_dead.specs.Dead.{is_pattern_name, scope_start, has_used_pattern_name, is_marked_pattern_name, has_marked_pattern_name, has_offset}
 

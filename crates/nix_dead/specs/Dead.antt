@@ -13,7 +13,8 @@ use Rattle.nix_scopes.specs.declared.resolution.Binding.{Binding}
 use Rattle.nix_scopes.specs.declared.resolution.Reference.{Reference}
 use Rattle.nix_scopes.specs.Bound.{bound_of, resolved_of}
 use Rattle.nix_scopes.specs.Occurrences.{is_number}
-use Rattle.nix_scopes.specs.Scopes.{Bound, Resolved, number_in, bindings_in, resolved_in}
+use Rattle.nix_scopes.specs.Resolved.{bindings_in, resolved_in}
+use Rattle.nix_scopes.specs.Scopes.{Bound, Resolved, number_in}
 use Rattle.nix_dead.specs.declared.dead.Name.{Name}
 
 -- whether a name is marked as unused on purpose: it starts with `_`

@@ -16,3 +16,4 @@ pub mod OpeningLemmas
 pub mod PlaceLemmas
 pub mod AddedOwnedLemmas
 pub mod MergedLemmas
+pub mod MergedExamples

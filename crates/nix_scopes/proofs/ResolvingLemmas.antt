@@ -4,7 +4,7 @@ use Rattle.std.{proofs.{Common.arith, lemmas.List.map-append}, specs.{List.All, 
 use Rattle.rnix_green.specs.{Tree.{Located, item_of}, Walk.{Spot, spot_at, counted, nodes_in, elements_of}, Equality.{same_kind, same_kind-decides}}
 use Rattle.{rnix_base.specs.Select.token_of, nix_scopes.specs.declared.{resolution.{Binding.Binding, Reference.Reference}, environment.Environment.Environment}}
 use Rattle.nix_scopes.specs.{Names.Named, Binders.{is_binder, is_scope}, References.{references_at, references_in}, Bound.{bound_of, resolved_of, name_of}}
-use Rattle.nix_scopes.specs.Scopes.{Bound, Resolved, bindings_at, bindings_in, around, is_with_body, resolved_among, resolved_at, resolved_in}
+use Rattle.nix_scopes.specs.Scopes.{Bound, Resolved, bindings_at, lexical_bindings, around, is_with_body, resolved_among, resolved_at, lexical_references}
 use Rattle.nix_scopes.specs.Resolving.{IsEnvironment, number_by, resolve_at, last_in, still_open, is_set}
 use Rattle.nix_scopes.proofs.{WalkLemmas.{node_there, token_alone, taken}, OpenLemmas.{IsBelow, HoldLater, reaches, begun, past_token, past_node}}
 use Rattle.nix_scopes.proofs.{OpenLemmas.{around_is, still_open_is, parent_around}, ScopeLemmas.{seen_begun, still_seen}, ResolvedLemmas.{bound_later, seen_resolved}}
@@ -21,8 +21,8 @@ pub record IsFound (root : Located) (bindings : List Binding) (references : List
   pub nodes : List Located
   pub are_open : HoldLater root number nodes
   pub sees : IsEnvironment root bindings env number (filter is_scope nodes) (filter is_with_body nodes) (filter is_set nodes)
-  pub bound : map bound_of bindings ++ flat_map bindings_at (nodes_in spots) ≡ bindings_in root
-  pub listing : map resolved_of references ++ flat_map (resolved_at root) (nodes_in spots) ≡ resolved_in root
+  pub bound : map bound_of bindings ++ flat_map bindings_at (nodes_in spots) ≡ lexical_bindings root
+  pub listing : map resolved_of references ++ flat_map (resolved_at root) (nodes_in spots) ≡ lexical_references root
 
 -- an `inherit` is not a scope
 inherit_no_scope : (e : Located) → same_kind k.NODE_INHERIT (item_of e).kind ≡ true → is_scope e ≡ false
@@ -111,14 +111,14 @@ found_token root bindings references env remaining less spots later e h is one =
 
 -- the references of a node are resolved as in the whole text
 here_resolved : (root : Located) (bindings : List Binding) (later : List Bound) (env : Environment) (n : ℕ) (e : Located) (nodes : List Located) →
-    map bound_of bindings ++ later ≡ bindings_in root → All (λ (b : Bound). n ≤ b.scope.number) later → IsBelow e nodes → around root e ≡ e ∷ nodes →
+    map bound_of bindings ++ later ≡ lexical_bindings root → All (λ (b : Bound). n ≤ b.scope.number) later → IsBelow e nodes → around root e ≡ e ∷ nodes →
     IsEnvironment root bindings env n (filter is_scope (e ∷ nodes)) (filter is_with_body (e ∷ nodes)) (filter is_set (e ∷ nodes)) →
     map (resolve_at env e) (references_at e) ≡ resolved_at root e
 here_resolved root bindings later env n e nodes bound high below around_is sees =
-    map_alike (resolve_at env e) (resolved_among (bindings_in root) (around root e) e)
-    (λ name. seen_resolved root bindings later (bindings_in root) env n e nodes name (sym bound) high
+    map_alike (resolve_at env e) (resolved_among (lexical_bindings root) (around root e) e)
+    (λ name. seen_resolved root bindings later (lexical_bindings root) env n e nodes name (sym bound) high
     (λ is. (inherit_no_scope e is, inherit_no_set e is)) below sees
-    ∙ ap (λ around. resolved_among (bindings_in root) around e name) (sym around_is))
+    ∙ ap (λ around. resolved_among (lexical_bindings root) around e name) (sym around_is))
     (references_at e)
 
 -- entering a node when the open nodes are those around it
@@ -127,15 +127,15 @@ found_entered : (root : Located) (bindings more : List Binding) (references othe
     later ≡ map (spot_at root.tree) (counted n (suc (last_in root) - n)) →
     HoldLater root n (e ∷ nodes) → IsBelow e nodes → around root e ≡ e ∷ nodes →
     IsEnvironment root more env n (filter is_scope (e ∷ nodes)) (filter is_with_body (e ∷ nodes)) (filter is_set (e ∷ nodes)) →
-    map bound_of bindings ++ flat_map bindings_at (e ∷ nodes_in later) ≡ bindings_in root →
-    map resolved_of references ++ flat_map (resolved_at root) (e ∷ nodes_in later) ≡ resolved_in root →
+    map bound_of bindings ++ flat_map bindings_at (e ∷ nodes_in later) ≡ lexical_bindings root →
+    map resolved_of references ++ flat_map (resolved_at root) (e ∷ nodes_in later) ≡ lexical_references root →
     map bound_of more ≡ map bound_of bindings ++ bindings_at e →
     map resolved_of others ≡ map resolved_of references ++ map (resolve_at env e) (references_at e) →
     IsFound root more others env remaining later
 found_entered root bindings more references others env remaining n later e nodes inside count_is walk are_open below around_is sees so_far listed bound
     referred =
-    let bound_is : map bound_of more ++ flat_map bindings_at (nodes_in later) ≡ bindings_in root =
-    more_listed bindings_at (map bound_of bindings) (map bound_of more) (bindings_in root) e (nodes_in later) so_far bound in
+    let bound_is : map bound_of more ++ flat_map bindings_at (nodes_in later) ≡ lexical_bindings root =
+    more_listed bindings_at (map bound_of bindings) (map bound_of more) (lexical_bindings root) e (nodes_in later) so_far bound in
     let high : All (λ (b : Bound). n ≤ b.scope.number) (flat_map bindings_at (nodes_in later)) =
     subst (λ spots. All (λ (b : Bound). n ≤ b.scope.number) (flat_map bindings_at (nodes_in spots))) (sym walk)
     (bound_later root.tree n (suc (last_in root) - n)) in
@@ -149,7 +149,7 @@ found_entered root bindings more references others env remaining n later e nodes
       sees = sees;
       bound = bound_is;
       listing =
-          more_listed (resolved_at root) (map resolved_of references) (map resolved_of others) (resolved_in root) e (nodes_in later) listed
+          more_listed (resolved_at root) (map resolved_of references) (map resolved_of others) (lexical_references root) e (nodes_in later) listed
           (referred ∙ ap (λ rs. map resolved_of references ++ rs)
           (here_resolved root more (flat_map bindings_at (nodes_in later)) env n e nodes bound_is high below around_is sees));
     }
@@ -214,26 +214,28 @@ found_same root bindings others references alike env same remaining spots bindin
     (subst (λ rs. IsFound root bindings rs same remaining spots) (sym references_are)
     (subst (λ around. IsFound root bindings references around remaining spots) (sym env_is) h))
 
--- the names of the resolved references are the references of the text
-pub names_resolved : (root : Located) (references : List Reference) → map resolved_of references ≡ resolved_in root →
+-- the name of a resolved reference
+abbrev pub name_in : Resolved → Named
+name_in r = record { text = r.text; node = r.node }
+
+-- the names of the resolved references are the references of the text, whatever each refers to
+pub names_resolved : (root : Located) (refer : Located → Named → Resolved) → ((e : Located) (name : Named) → name_in (refer e name) ≡ name) →
+    (references : List Reference) → map resolved_of references ≡ flat_map (λ e. map (refer e) (references_at e)) (nodes_in (elements_of root)) →
     map name_of references ≡ references_in root
-names_resolved root references is =
+names_resolved root refer same references is =
     names_again references ∙ ap (map name_in) is ∙ names_of_all (nodes_in (elements_of root))
   where
-    name_in : Resolved → Named
-    name_in r = record { text = r.text; node = r.node }
-
     names_again : (rs : List Reference) → map name_of rs ≡ map name_in (map resolved_of rs)
     names_again [] = refl
     names_again (r ∷ rs) = ap (λ ns. name_of r ∷ ns) (names_again rs)
 
-    names_at : (e : Located) (names : List Named) → map name_in (map (resolved_among (bindings_in root) (around root e) e) names) ≡ names
+    names_at : (e : Located) (names : List Named) → map name_in (map (refer e) names) ≡ names
     names_at e [] = refl
-    names_at e (name ∷ names) = ap (λ ns. name ∷ ns) (names_at e names)
+    names_at e (name ∷ names) = ap (λ n. n ∷ map name_in (map (refer e) names)) (same e name) ∙ ap (λ ns. name ∷ ns) (names_at e names)
 
-    names_of_all : (es : List Located) → map name_in (flat_map (resolved_at root) es) ≡ flat_map references_at es
+    names_of_all : (es : List Located) → map name_in (flat_map (λ e. map (refer e) (references_at e)) es) ≡ flat_map references_at es
     names_of_all [] = refl
     names_of_all (e ∷ es) =
-        map-append name_in (resolved_at root e) (flat_map (resolved_at root) es)
-        ∙ ap (λ ns. ns ++ map name_in (flat_map (resolved_at root) es)) (names_at e (references_at e))
+        map-append name_in (map (refer e) (references_at e)) (flat_map (λ x. map (refer x) (references_at x)) es)
+        ∙ ap (λ ns. ns ++ map name_in (flat_map (λ x. map (refer x) (references_at x)) es)) (names_at e (references_at e))
         ∙ ap (λ ns. references_at e ++ ns) (names_of_all es)

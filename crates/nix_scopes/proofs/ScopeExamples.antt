@@ -1,6 +1,6 @@
 -- What the names of small texts refer to, by computation.
 use Rattle.{std.proofs.Common.{◌≡◌, ℕ, List, [], ◌∷◌, map, Bool, true, false, Option, Some, None, refl, codes}, rnix_green.specs.Forest.{Forest, empty, leaf}}
-use Rattle.{rnix_green.specs.{Forest.{node, join}, Tree.Located}, nix_scopes.specs.{Globals.is_global, Scopes.resolved_in}}
+use Rattle.{rnix_green.specs.{Forest.{node, join}, Tree.Located}, nix_scopes.specs.{Globals.is_global, Resolved.resolved_in}}
 use Rattle.rnix_base.specs.{Escapes.values, Value.with_line_feeds}
 use Rattle.rnix_kinds.specs.declared.kinds.SyntaxKind.TheVariants as k
 

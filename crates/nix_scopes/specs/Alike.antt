@@ -7,7 +7,7 @@ use Rattle.nix_scopes.specs.declared.resolution.Binding.{Binding}
 use Rattle.nix_scopes.specs.declared.resolution.Reference.{Reference}
 use Rattle.nix_scopes.specs.declared.resolution.Resolution.{Resolution}
 use Rattle.nix_scopes.specs.declared.renaming.NewName.{NewName}
-use Rattle.nix_scopes.specs.Scopes.{bindings_in, resolved_in}
+use Rattle.nix_scopes.specs.Resolved.{bindings_in, resolved_in}
 use Rattle.nix_scopes.specs.Bound.{bindings_of, references_of, bound_of, resolved_of, AreFirst}
 use Rattle.nix_scopes.specs.Occurrences.{is_number, occurrences_of}
 

@@ -10,6 +10,7 @@ pub mod Resolving
 pub mod Alike
 pub mod Owners
 pub mod Merged
+pub mod Resolved
 pub mod Added
 pub mod Places
 pub mod Tries

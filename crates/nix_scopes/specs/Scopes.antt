@@ -28,8 +28,8 @@ abbrev pub bindings_at : Located → List Bound
 bindings_at e = if is_scope e then map (bound_in e) (names_bound e) else []
 
 -- all bindings inside a node, in the order of their scopes
-abbrev pub bindings_in : Located → List Bound
-bindings_in root = flat_map bindings_at (nodes_in (elements_of root))
+abbrev pub lexical_bindings : Located → List Bound
+lexical_bindings root = flat_map bindings_at (nodes_in (elements_of root))
 
 -- a node and the nodes around it, up to the root, innermost first
 abbrev pub around : Located → Located → List Located
@@ -87,9 +87,9 @@ resolved_among bindings nodes e name =
 
 -- the references of a node, with what they refer to
 abbrev pub resolved_at : Located → Located → List Resolved
-resolved_at root e = map (resolved_among (bindings_in root) (around root e) e) (references_at e)
+resolved_at root e = map (resolved_among (lexical_bindings root) (around root e) e) (references_at e)
 
 -- the references inside a node, in preorder: each refers to the binding of its name in the innermost scope around it
 -- that binds the name
-abbrev pub resolved_in : Located → List Resolved
-resolved_in root = flat_map (resolved_at root) (nodes_in (elements_of root))
+abbrev pub lexical_references : Located → List Resolved
+lexical_references root = flat_map (resolved_at root) (nodes_in (elements_of root))

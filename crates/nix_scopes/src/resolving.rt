@@ -9,13 +9,16 @@ ghost use Rattle.rnix.specs.Sums.{attr_node};
 ghost use Rattle.nix_scopes.specs.Names.{named_if};
 ghost use Rattle.nix_scopes.specs.Binders.{named};
 ghost use Rattle.nix_scopes.specs.References.{inherited_at, references_at, references_in};
-ghost use Rattle.nix_scopes.specs.Scopes.{bindings_in, resolved_in};
+ghost use Rattle.nix_scopes.specs.Resolved.{bindings_in, resolved_in};
+ghost use Rattle.nix_scopes.specs.Scopes.{lexical_bindings, lexical_references};
 ghost use Rattle.nix_scopes.specs.Resolving.{is_in_scope, number_in_scope, referring, resolve_name, resolve_at};
 
 use crate::environment::Environment;
 use crate::globals::is_global;
+use crate::merged::resolve_merged;
 use crate::name_roles::is_expression;
 use crate::names::{Name, attr_name};
+use crate::owners::may_merge;
 use crate::resolution::{Reference, Resolution};
 use crate::symbols::SymbolTable;
 use rnix::ast::{AstNode, Attr, Inherit};
@@ -135,12 +138,11 @@ fn add_references<'t>(
     }
 }
 
-/// Resolves the names inside a node. A name refers to the innermost binding of that name around it, even inside `with`.
-pub fn resolve<'t>(alloc: Global, root: &SyntaxNode<'t>) -> Result<Resolution<'t>, AllocError>
-    ensures bindings { IfOk result (λ names. map bound_of (bindings_of names) ≡ bindings_in root.now) }
+// Resolves the names inside a node in which no entry adds to a scope.
+fn resolve_lexically<'t>(alloc: Global, root: &SyntaxNode<'t>) -> Result<Resolution<'t>, AllocError>
+    ensures bindings { IfOk result (λ names. map bound_of (bindings_of names) ≡ lexical_bindings root.now) }
     ensures firsts { IfOk result (λ names. AreFirst (bindings_of names)) }
-    ensures references { IfOk result (λ names. listed names ≡ references_in root.now) }
-    ensures resolved { IfOk result (λ names. map resolved_of (references_of names) ≡ resolved_in root.now) }
+    ensures resolved { IfOk result (λ names. map resolved_of (references_of names) ≡ lexical_references root.now) }
 {
     let mut bindings = Vec::new(alloc);
     let mut references = Vec::new(alloc);
@@ -159,4 +161,20 @@ pub fn resolve<'t>(alloc: Global, root: &SyntaxNode<'t>) -> Result<Resolution<'t
         bindings,
         references,
     })
+}
+
+/// Resolves the names inside a node. A name refers to the innermost binding of that name around it, even inside `with`. An entry that adds to a set which
+/// another entry defines is inside that set, as in Nix.
+pub fn resolve<'t>(alloc: Global, root: &SyntaxNode<'t>) -> Result<Resolution<'t>, AllocError>
+    ensures bindings { IfOk result (λ names. map bound_of (bindings_of names) ≡ bindings_in root.now) }
+    ensures firsts { IfOk result (λ names. AreFirst (bindings_of names)) }
+    ensures references { IfOk result (λ names. listed names ≡ references_in root.now) }
+    ensures resolved { IfOk result (λ names. map resolved_of (references_of names) ≡ resolved_in root.now) }
+{
+    if may_merge(root) {
+        let names = resolve_merged(alloc, root)?;
+        return Ok(names);
+    }
+    let names = resolve_lexically(alloc, root)?;
+    Ok(names)
 }

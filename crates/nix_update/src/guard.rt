@@ -11,7 +11,6 @@ ghost use Rattle.nix_update.specs.Updated.{set_at, entry_at, change_of, IsMeanin
 use crate::change::last_entry;
 use crate::meaning::{Change, first_difference};
 use crate::outcome::{Reason, Refused, refuse_at};
-use crate::path_match::match_entry;
 use crate::steps::PathStep;
 use nix_scopes::{Reference, resolve};
 use rnix::ast::{AstNode, AttrSet};
@@ -70,67 +69,10 @@ fn special_set<'s, 't>(site: Site<'s, 't>) -> Option<&'s SyntaxNode<'t>> {
     None
 }
 
-// Returns the first `rec` set along the path that is the value of an attribute.
-fn inner_recursive<'w, 't>(steps: &'w [PathStep<'t>]) -> Option<&'w SyntaxNode<'t>> {
-    for step in steps {
-        if is_set(step) && step.at > 0 && is_recursive(&step.node) {
-            return Some(&step.node);
-        }
-    }
-    None
-}
-
-// Returns whether more than one entry of a node defines the attribute that the path has up to the name with index `at`, or a part of it.
-fn is_shared(
-    alloc: Global,
-    names: &[String],
-    at: usize,
-    node: &SyntaxNode<'_>,
-) -> Result<bool, AllocError> {
-    let names = names.get(..at.saturating_add(1)).unwrap_or(names);
-    let mut has_one = false;
-    for entry in node.children() {
-        if match_entry(alloc, names, at, &entry)?.is_defining() {
-            if has_one {
-                return Ok(true);
-            }
-            has_one = true;
-        }
-    }
-    Ok(false)
-}
-
-// Returns whether more than one entry defines an attribute along the path, or a part of it.
-fn has_shared(alloc: Global, site: Site<'_, '_>) -> Result<bool, AllocError> {
-    for step in site.steps {
-        if is_set(step) && is_shared(alloc, site.names, step.at, &step.node)? {
-            return Ok(true);
-        }
-    }
-    Ok(false)
-}
-
-// Returns the start of a `rec` set along the path to which other entries may add.
-fn split_set(alloc: Global, site: Site<'_, '_>) -> Result<Option<usize>, AllocError> {
-    let Some(set) = inner_recursive(site.steps) else {
-        return Ok(None);
-    };
-    if has_shared(alloc, site)? {
-        Ok(Some(set.text_range().start()))
-    } else {
-        Ok(None)
-    }
-}
-
 // Returns the reason, if there is one, why no attribute can be added to a set or removed from it, whatever names refer to.
-fn set_refusal(alloc: Global, site: Site<'_, '_>) -> Result<Option<Refused>, AllocError> {
-    if let Some(start) = split_set(alloc, site)? {
-        return Ok(Some(refuse_at(Reason::SplitSet, start)));
-    }
-    match special_set(site) {
-        Some(set) => Ok(Some(refuse_at(Reason::SpecialName, set.text_range().start()))),
-        None => Ok(None),
-    }
+fn set_refusal(site: Site<'_, '_>) -> Option<Refused> {
+    let set = special_set(site)?;
+    Some(refuse_at(Reason::SpecialName, set.text_range().start()))
 }
 
 // Returns the first set inside a node that begins at an offset.
@@ -299,7 +241,7 @@ pub fn addition_refusal(
     ensures unopened { IfOk result (λ refused. IfNone refused
         (HasNoOpenName site.entry.root.now no_range (drop site.entry.at (map string_bytes site.entry.names.now)))) }
 {
-    if let Some(refused) = set_refusal(alloc, site)? {
+    if let Some(refused) = set_refusal(site) {
         return Ok(Some(refused));
     }
     if let Some(refused) = open_name_refusal(alloc, site, TextRange::empty(0))? {
@@ -320,7 +262,7 @@ pub fn removal_refusal(
     ensures unopened { IfOk result (λ refused. IfNone refused
         (HasNoOpenName site.entry.root.now (extent_of entry.now) (drop site.entry.at (map string_bytes site.entry.names.now)))) }
 {
-    if let Some(refused) = set_refusal(alloc, site)? {
+    if let Some(refused) = set_refusal(site) {
         return Ok(Some(refused));
     }
     if let Some(refused) = open_name_refusal(alloc, site, entry.text_range())? {

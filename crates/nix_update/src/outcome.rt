@@ -30,8 +30,6 @@ pub enum Reason {
     ChangedMeaning,
     /// An operator refers to the name, or the set treats it specially.
     SpecialName,
-    /// Other entries add to the `rec` set in which the attribute would be added or removed.
-    SplitSet,
     /// The new text would define an attribute again that cannot be defined again.
     Repeated,
     /// The edit is refused.
@@ -112,9 +110,6 @@ impl Reason {
             }
             Reason::SpecialName => {
                 "in this set, the name has a meaning of its own for others: --force changes the text all the same"
-            }
-            Reason::SplitSet => {
-                "other entries add to this `rec` set, so names in them may change their meaning: --force changes the text all the same"
             }
             Reason::Repeated => "with the change, an attribute would be defined twice",
             Reason::Edit(Refusal::NotInText) => "this is not in the text",

@@ -2,7 +2,8 @@
 use Rattle.std.specs.Prelude.{◌≡◌, ℕ, ℤ, cond, List, map, length}
 use Rattle.rnix_kinds.specs.SyntaxKind.{discriminant_of}
 use Rattle.rnix_green.specs.Tree.{Tree, Located, item_of}
-use Rattle.nix_scopes.specs.Scopes.{Bound, Resolved, number_in, bindings_in, resolved_in}
+use Rattle.nix_scopes.specs.Resolved.{bindings_in, resolved_in}
+use Rattle.nix_scopes.specs.Scopes.{Bound, Resolved, number_in}
 use Rattle.rnix_c.specs.declared.names.RnixBinding.{RnixBinding}
 use Rattle.rnix_c.specs.declared.names.RnixReference.{RnixReference}
 use Rattle.rnix_c.specs.Answers.{filled, IsWritten}

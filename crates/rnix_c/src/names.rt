@@ -2,7 +2,7 @@
 
 ghost use Rattle.std.specs.Prelude.{◌≡◌, length, map};
 ghost use Rattle.nix_scopes.specs.Bound.{bindings_of, references_of, bound_of, resolved_of, AreFirst};
-ghost use Rattle.nix_scopes.specs.Scopes.{bindings_in, resolved_in};
+ghost use Rattle.nix_scopes.specs.Resolved.{bindings_in, resolved_in};
 ghost use Rattle.rnix_c.specs.Answers.{filled, IsWritten, Answers};
 ghost use Rattle.rnix_c.specs.NameCalls.{binding_of, reference_of, bindings_written, references_written, WritesNames};
 

@@ -1,5 +1,5 @@
 use Rattle.std.proofs.{Common.{◌≡◌, ◌∙◌, length, map, ap, sym, arith}, lemmas.{Int.{ints}, List.{length-map}}}
-use Rattle.nix_scopes.specs.{Bound.{bindings_of, resolved_of}, Scopes.{bindings_in, resolved_in}}
+use Rattle.nix_scopes.specs.{Bound.{bindings_of, resolved_of}, Resolved.{bindings_in, resolved_in}}
 use Rattle.rnix_c.{specs.{Answers.{filled}, NameCalls.{reference_of, bindings_written}}, proofs.WrittenNames.{own_binding, all_among}}
 use Rattle.rnix_c.proofs.names.write_names.Goals as goal
 

@@ -1,5 +1,5 @@
 use Rattle.nix_scopes.proofs.ResolvingLemmas.{IsFound}
-use Rattle.nix_scopes.proofs.resolving.resolve.Given as goal
+use Rattle.nix_scopes.proofs.resolving.resolve_lexically.Given as goal
 
 abbrev pub invariant-loop-element : goal.invariant-loop-element
 invariant-loop-element l = record {
