@@ -6,8 +6,8 @@ use Rattle.rnix_green.specs.Tree.{Located}
 use Rattle.nix_lints.specs.Repeated.{home_in}
 use Rattle.nix_scopes.specs.declared.added.Added.{Added}
 use Rattle.std.specs.{BTreeMap.is_at, Map.lookup, Ordering.nat_cmp}
-use Rattle.nix_scopes.specs.Added.{names_in_list, names_for, AddsOwned}
-use Rattle.nix_scopes.specs.Merged.{Owned, owned_by, added_if}
+use Rattle.nix_scopes.specs.AddedNames.{names_in_list, names_for, AddsOwned}
+use Rattle.nix_scopes.specs.Merged.{Owned, added_if}
 use Rattle.nix_scopes.specs.Names.{Named, named_if}
 
 -- what is made of two lists is made of each
@@ -55,7 +55,8 @@ pub none_added : (root : Located) (added : Added) (owner : ℕ) (attr : Located)
     AddsOwned root added added (map (λ name. (owner, name)) (named_if attr text))
 none_added root added owner attr None own set = adds_nothing root added [] refl set
 none_added root added owner attr (Some text) own set =
-    sym (ap (λ names. names_for added set ++ (names ++ [])) (nothing (home_in root owner == set) (owner == set) record { text = text; node = attr } (ap (λ h. h == set) own))
+    sym (ap (λ names. names_for added set ++ (names ++ [])) (nothing (home_in root owner == set) (owner == set)
+    record { text = text; node = attr } (ap (λ h. h == set) own))
     ∙ append-nil (names_for added set))
   where
     nothing : (a b : Bool) (name : Named) → a ≡ b → (if a && not b then name ∷ [] else []) ≡ []
@@ -69,7 +70,8 @@ pub one_added : (root : Located) (old new : Added) (owner home : ℕ) (name : Na
 one_added root old new owner home name is other adds set =
     adds set
     ∙ ap (λ names. names_for old set ++ names)
-    (chosen (home == set) (owner == set) (λ one two. grind (arith, nat_tests, one, two, other)) ∙ ap (λ h. (if (h == set) && not (owner == set) then name ∷ [] else []) ++ []) is)
+    (chosen (home == set) (owner == set) (λ one two. grind (arith, nat_tests, one, two, other))
+    ∙ ap (λ h. (if (h == set) && not (owner == set) then name ∷ [] else []) ++ []) is)
   where
     chosen : (a b : Bool) → (a ≡ true → b ≡ true → ⊥) → (if a then name ∷ [] else []) ≡ (if a && not b then name ∷ [] else []) ++ []
     chosen true true both = absurd (both refl refl)

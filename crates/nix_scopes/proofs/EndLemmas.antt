@@ -1,5 +1,5 @@
 -- Where the open nodes end, and how those that have ended are left, innermost first.
-use Rattle.std.proofs.Common.{◌≡◌, ℕ, ◌-◌, ◌<◌, List, [], ◌∷◌, ◌++◌, length, take, Bool, true, false, refl, ap, sym, subst, ◌∙◌, arith}
+use Rattle.std.proofs.Common.{◌≡◌, ℕ, ◌-◌, List, [], ◌∷◌, ◌++◌, length, take, Bool, true, false, refl, ap, sym, subst, ◌∙◌, arith}
 use Rattle.std.{proofs.{lemmas.{List.length_push, Bool.false≢true}, Math.Seq.take-append_seam}, specs.Prelude.{nat_lt, slice_get, if◌then◌else◌}}
 use Rattle.{rnix_green.specs.Tree.Located, rnix_tree.specs.InsideCounts.inside_count}
 use Rattle.nix_scopes.specs.Binders.{is_scope}

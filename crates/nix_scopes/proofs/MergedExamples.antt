@@ -1,5 +1,5 @@
 -- What names refer to where entries add to sets, by computation.
-use Rattle.{std.proofs.Common.{◌≡◌, ℕ, List, [], ◌∷◌, map, Option, Some, None, refl, codes}, rnix_green.specs.Forest.{Forest, empty, leaf}}
+use Rattle.{std.proofs.Common.{◌≡◌, ℕ, List, [], ◌∷◌, map, Option, Some, refl, codes}, rnix_green.specs.Forest.{Forest, empty, leaf}}
 use Rattle.{rnix_green.specs.{Forest.{node, join}, Tree.Located}, nix_scopes.specs.Resolved.{bindings_in, resolved_in}}
 use Rattle.rnix_kinds.specs.declared.kinds.SyntaxKind.TheVariants as k
 
@@ -58,7 +58,8 @@ rec_into_path = refl
 
 -- let b=1;in{m=rec{b=1;};m={c=b;};}: a second set is inside the first
 set_into_rec : referred (let_in (entry (ident 98 empty) number empty)
-    (set (entry (ident 109 empty) (rec_set (entry (ident 98 empty) number empty)) (entry (ident 109 empty) (set (entry (ident 99 empty) (ident 98 empty) empty)) empty))))
+    (set (entry (ident 109 empty) (rec_set (entry (ident 98 empty) number empty))
+    (entry (ident 109 empty) (set (entry (ident 99 empty) (ident 98 empty) empty)) empty))))
     ≡ Some 1 ∷ []
 set_into_rec = refl
 

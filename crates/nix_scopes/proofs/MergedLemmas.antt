@@ -1,7 +1,7 @@
 -- What has been found so far while a text is resolved in which entries may add to scopes.
 use Rattle.std.proofs.Common.{◌≡◌, ◌∙◌, ℕ, zero, suc, ◌+◌, ◌-◌, ◌<◌, ◌≤◌, List, [], ◌∷◌, ◌++◌, length, map, drop, Bool, true, false, Option, Some, None, refl, ap, sym, subst, arith, inl, inr, append_assoc}
 use Rattle.std.proofs.lemmas.{Bool.{cases_lt, le-leb}, List.{length_push, Elements.{All-append, All-map, All-filter, All-drop}}}
-use Rattle.std.specs.Prelude.{cond, ◌||◌, if◌then◌else◌, nat_le, filter, flat_map, unwrap_or, slice_get}
+use Rattle.std.specs.Prelude.{◌||◌, if◌then◌else◌, nat_le, filter, flat_map, unwrap_or, slice_get}
 use Rattle.std.specs.List.{All, list_any}
 use Rattle.rnix_kinds.specs.declared.kinds.SyntaxKind.TheVariants as k
 use Rattle.rnix_green.specs.Equality.{same_kind}
@@ -16,10 +16,10 @@ use Rattle.nix_scopes.specs.Names.{Named}
 use Rattle.nix_scopes.specs.References.{references_at}
 use Rattle.nix_scopes.specs.Resolving.{last_in}
 use Rattle.nix_scopes.specs.Bound.{bound_of, resolved_of, AreFirst}
-use Rattle.nix_scopes.specs.Scopes.{Bound, bound_in, innermost, is_with_body, Resolved, resolved}
+use Rattle.nix_scopes.specs.Scopes.{Bound, bound_in, innermost, is_with_body, resolved}
 use Rattle.nix_scopes.specs.Owners.{merged_around}
-use Rattle.nix_scopes.specs.Merged.{is_merged_scope, merged_names, merged_bindings_at, merged_bindings, merged_scopes, merged_among, merged_at, merged_references}
-use Rattle.nix_scopes.specs.Places.{place_at, place_around, Sees, IsPlace, IsPlaceOf, ArePlaces, KeepsMaps, EntersScope, referring_at, referring_of}
+use Rattle.nix_scopes.specs.Merged.{is_merged_scope, merged_names, merged_bindings_at, merged_bindings, merged_among, merged_at, merged_references}
+use Rattle.nix_scopes.specs.NodePlaces.{place_at, place_around, Sees, IsPlace, IsPlaceOf, ArePlaces, KeepsMaps, EntersScope, referring_at, referring_of}
 use Rattle.nix_scopes.proofs.NumberLemmas.{get_kept, get_last}
 use Rattle.nix_scopes.proofs.SymbolTableLemmas.{innermost_kept}
 use Rattle.nix_scopes.proofs.WalkLemmas.{IsTaken, taken}
@@ -34,7 +34,8 @@ places_push root bindings maps places number place h is = record {
   are = λ n high low. elim (cases_lt n number) [
     | inl before ↦
         let old : place_at (places ++ place ∷ []) root.number n ≡ place_at places root.number n =
-        ap (λ o. if nat_le root.number n then unwrap_or o None else None) (get_kept places (place ∷ []) (n - root.number) (omega (arith, h.count, before, high))) in
+        ap (λ o. if nat_le root.number n then unwrap_or o None else None)
+        (get_kept places (place ∷ []) (n - root.number) (omega (arith, h.count, before, high))) in
         subst (λ o. IsPlaceOf root bindings maps o n) (sym old) (h.are n high before)
     | inr after ↦
         let same : n ≡ number = omega (arith, low, after) in
@@ -55,7 +56,8 @@ module _ (root : Located) (bindings names : List Bound) (old new : NameMaps) (nu
     inside = sees_kept bindings names old new place.inside number _ keys kept
         (All-filter (is_merged_scope root) (λ (a : Located). a.number < number) nodes low) later h.inside;
     outside = sees_kept bindings names old new place.outside number _ keys kept
-        (All-filter (is_merged_scope root) (λ (a : Located). a.number < number) (drop 1 nodes) (All-drop (λ (a : Located). a.number < number) 1 nodes low)) later
+        (All-filter (is_merged_scope root) (λ (a : Located). a.number < number) (drop 1 nodes)
+        (All-drop (λ (a : Located). a.number < number) 1 nodes low)) later
         h.outside;
     below = h.below;
   }
@@ -112,8 +114,9 @@ pub record IsWalked (root : Located) (bindings : List Binding) (references : Lis
   pub firsts : AreFirst bindings
 
 -- before the walk nothing has been found
-pub walked_begun : (root : Located) (bindings : List Binding) (references : List Reference) (maps : NameMaps) (places : List (Option Place)) (spots : List Spot) →
-    spots ≡ elements_of root → bindings ≡ [] → references ≡ [] → places ≡ [] → AreEmpty maps → IsWalked root bindings references maps places spots
+pub walked_begun : (root : Located) (bindings : List Binding) (references : List Reference) (maps : NameMaps) (places : List (Option Place))
+    (spots : List Spot) → spots ≡ elements_of root → bindings ≡ [] → references ≡ [] → places ≡ [] → AreEmpty maps
+    → IsWalked root bindings references maps places spots
 walked_begun root bindings references maps places spots is none no_references no_places empty =
     let all : 1 + inside_count root ≡ suc (last_in root) - root.number = omega arith in
     record {
@@ -178,7 +181,8 @@ module _ (root e : Located) (bound more all : List Bound) (maps : NameMaps) (aro
   seen_in_all seen nodes text below h =
       h.names text
       ∙ sym (ap (λ bs. innermost bs text (filter (is_merged_scope root) nodes)) all_is
-      ∙ innermost_kept bound more text n (filter (is_merged_scope root) nodes) (All-filter (is_merged_scope root) (λ (a : Located). a.number < n) nodes below) later)
+      ∙ innermost_kept bound more text n (filter (is_merged_scope root) nodes)
+      (All-filter (is_merged_scope root) (λ (a : Located). a.number < n) nodes below) later)
 
   -- a name of the node refers to the same binding as in the whole text
   refers : (name : Named) → referring_of maps around own e name ≡ merged_among root all (e ∷ rest) e name

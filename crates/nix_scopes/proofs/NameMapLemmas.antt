@@ -1,13 +1,13 @@
 -- What binding a name does to the maps from names.
-use Rattle.std.proofs.Common.{◌≡◌, ◌∙◌, ℕ, suc, ◌+◌, ◌<◌, ◌≤◌, ◌^◌, List, Bool, true, false, Option, Some, None, refl, ap, sym, subst, arith}
+use Rattle.std.proofs.Common.{◌≡◌, ◌∙◌, ℕ, suc, ◌+◌, ◌<◌, ◌^◌, List, Bool, true, false, Option, Some, None, refl, ap, sym, subst, arith}
 use Rattle.std.proofs.lemmas.{Bool.{false≢true}, Slice.Eq.bytes_eq-Decides, Option.none-some}
 use Rattle.std.specs.Prelude.{if◌then◌else◌}
 use Rattle.std.specs.Str.{bytes_eq}
 use Rattle.nix_scopes.specs.declared.name_maps.NameMaps.{NameMaps}
 use Rattle.nix_scopes.specs.declared.trie.Tries.{Tries}
-use Rattle.nix_scopes.specs.Resolving.{Numbers, number_by}
-use Rattle.nix_scopes.specs.Tries.{key_bits, value_at, IsMap, IsUpdated}
-use Rattle.nix_scopes.specs.NameMaps.{number_stored, number_at_key, number_in_map, HaveKeys, IsNameMap, AreEmpty, IsKeyed, IsBound}
+use Rattle.nix_scopes.specs.Resolving.{number_by}
+use Rattle.nix_scopes.specs.BitTries.{key_bits, value_at, IsMap, IsUpdated}
+use Rattle.nix_scopes.specs.NameMaps.{number_stored, number_at_key, HaveKeys, IsNameMap, IsKeyed, IsBound}
 use Rattle.nix_scopes.proofs.NumberLemmas.{some_same}
 
 -- the keys are those of other maps
@@ -38,8 +38,8 @@ module _ (old mid new : NameMaps) (map : ℕ) (text : List ℕ) (number made key
   kept_value other k is = (updated.others other (old_map other is)).1 k ∙ old_value other k
 
   -- a name has the number that it had in another map
-  kept_number : (other : ℕ) → HaveKeys old → IsNameMap old other → (name : List ℕ) (e : Bool) (o : Option ℕ) → bytes_eq text name ≡ e → number_by old.keys name ≡ o →
-      number_at_key new other (if e then Some key else o) ≡ number_at_key old other o
+  kept_number : (other : ℕ) → HaveKeys old → IsNameMap old other → (name : List ℕ) (e : Bool) (o : Option ℕ) → bytes_eq text name ≡ e
+      → number_by old.keys name ≡ o → number_at_key new other (if e then Some key else o) ≡ number_at_key old other o
   kept_number other h is name false None test at = refl
   kept_number other h is name false (Some k) test at = ap number_stored (kept_value other k is.is_map)
   kept_number other h is name true None test at =
@@ -120,7 +120,8 @@ key_added old new text key is few count tries none keys = record {
   tries = tries;
 }
   where
-    low : HaveKeys old → (name : List ℕ) (k : ℕ) (e : Bool) → bytes_eq text name ≡ e → (if e then Some key else number_by old.keys name) ≡ Some k → k < new.count
+    low : HaveKeys old → (name : List ℕ) (k : ℕ) (e : Bool) → bytes_eq text name ≡ e
+        → (if e then Some key else number_by old.keys name) ≡ Some k → k < new.count
     low h name k true test at = omega (arith, some_same key k at, count)
     low h name k false test at = omega (arith, h.low name k at, is, count)
 

@@ -1,19 +1,19 @@
 -- What comes into scope when a scope binds its names one by one.
-use Rattle.std.proofs.Common.{◌≡◌, ◌∙◌, ℕ, suc, ◌+◌, ◌<◌, ◌≤◌, List, [], ◌∷◌, ◌++◌, length, map, append_assoc, append-nil, Bool, true, false, Option, Some, None, refl, ap, sym, subst, arith}
-use Rattle.std.proofs.lemmas.{Bool.{false≢true, le-leb, lt-leb, Decides.nat_tests}, Slice.Eq.bytes_eq-Decides, Option.none-some, List.{length_push, length-map, map-append, Elements.{All-map}}}
-use Rattle.std.specs.Prelude.{if◌then◌else◌, nat_le}
+use Rattle.std.proofs.Common.{◌≡◌, ◌∙◌, ℕ, ◌<◌, ◌≤◌, List, [], ◌∷◌, ◌++◌, length, map, append_assoc, append-nil, Bool, true, false, Option, Some, None, refl, ap, sym, subst, arith}
+use Rattle.std.proofs.lemmas.{Bool.{le-leb, lt-leb}, Slice.Eq.bytes_eq-Decides, Option.none-some, List.{length_push, length-map, map-append, Elements.{All-map}}}
+use Rattle.std.specs.Prelude.{if◌then◌else◌}
 use Rattle.std.specs.{List.All, Option.option_or, Str.bytes_eq}
 use Rattle.rnix_green.specs.Tree.{Located}
 use Rattle.nix_scopes.specs.declared.name_maps.NameMaps.{NameMaps}
-use Rattle.nix_scopes.specs.NameMaps.{number_in_map, HaveKeys, IsNameMap, IsBound}
+use Rattle.nix_scopes.specs.NameMaps.{number_in_map, HaveKeys, IsBound}
 use Rattle.nix_scopes.specs.declared.resolution.Binding.{Binding}
 use Rattle.nix_scopes.specs.Names.{Named}
 use Rattle.nix_scopes.specs.Binders.{names_bound}
 use Rattle.nix_scopes.specs.Bound.{bound_of, AreFirst}
 use Rattle.nix_scopes.specs.Merged.{is_merged_scope, merged_names, added_to}
-use Rattle.nix_scopes.specs.Places.{own_if, Sees, IsOpening, KeepsMaps, EntersScope}
+use Rattle.nix_scopes.specs.NodePlaces.{own_if, Sees, IsOpening, KeepsMaps, EntersScope}
 use Rattle.nix_scopes.specs.Scopes.{Bound, bound_in, number_in, innermost}
-use Rattle.nix_scopes.proofs.NumberLemmas.{some_same, none_below, number_bound, number_kept}
+use Rattle.nix_scopes.proofs.NumberLemmas.{some_same, none_below, number_bound}
 use Rattle.nix_scopes.proofs.SymbolTableLemmas.{innermost_low, innermost_kept}
 
 -- maps that stay as they are
@@ -56,7 +56,8 @@ module _ (outer : List ℕ → Option ℕ) (bindings : List Bound) (maps : NameM
 
   module _ (b : Bound) (same : b.scope.number ≡ scope.number) where
     -- the numbers of one more binding, where its name has a number
-    number_known : (n : ℕ) → number_in bindings b.text scope ≡ Some n → (text : List ℕ) → number_in (bindings ++ b ∷ []) text scope ≡ number_in bindings text scope
+    number_known : (n : ℕ) → number_in bindings b.text scope ≡ Some n → (text : List ℕ)
+        → number_in (bindings ++ b ∷ []) text scope ≡ number_in bindings text scope
     number_known n known text = number_bound bindings text scope b same ∙ chosen (bytes_eq b.text text) refl (number_in bindings text scope) refl
       where
         chosen : (e : Bool) → bytes_eq b.text text ≡ e → (o : Option ℕ) → number_in bindings text scope ≡ o →
@@ -147,12 +148,14 @@ pub opening_done : (bindings names : List Bound) (new : NameMaps) (made first : 
     IsOpening (λ text. innermost bindings text scopes) (bindings ++ names) new made first scope → Sees (bindings ++ names) new made (scope ∷ scopes)
 opening_done bindings names new made first scopes scope below later h = record {
   is_map = h.is_map;
-  names = λ text. h.names text ∙ ap (option_or (number_in (bindings ++ names) text scope)) (sym (innermost_kept bindings names text scope.number scopes below later));
+  names = λ text. h.names text
+      ∙ ap (option_or (number_in (bindings ++ names) text scope)) (sym (innermost_kept bindings names text scope.number scopes below later));
 }
 
 -- what is in scope stays so when later scopes bind names
 pub sees_kept : (bindings names : List Bound) (old new : NameMaps) (view n : ℕ) (scopes : List Located) → HaveKeys old → KeepsMaps old new →
-    All (λ (s : Located). s.number < n) scopes → All (λ (b : Bound). n ≤ b.scope.number) names → Sees bindings old view scopes → Sees (bindings ++ names) new view scopes
+    All (λ (s : Located). s.number < n) scopes → All (λ (b : Bound). n ≤ b.scope.number) names → Sees bindings old view scopes
+    → Sees (bindings ++ names) new view scopes
 sees_kept bindings names old new view n scopes keys kept below later sees =
     let same = kept.maps keys view sees.is_map in
     record {

@@ -1,19 +1,16 @@
 -- The nodes around a node by Nix's rules, and what a walk knows about them.
-use Rattle.std.proofs.Common.{◌≡◌, ◌∙◌, ℕ, zero, suc, ◌+◌, ◌-◌, ◌<◌, ◌≤◌, List, [], ◌∷◌, ◌++◌, length, map, drop, Bool, true, false, Option, Some, None, refl, ap, sym, subst, arith, inl, inr}
-use Rattle.std.proofs.lemmas.{Bool.{false≢true, cases_lt, le-leb, lt-leb, lt-ltb, Decides.nat_tests}, Option.none-some, List.{length_push, append-nil, Elements.{All-nil, All-cons, All-filter, All-drop}}}
-use Rattle.std.specs.Prelude.{if◌then◌else◌, ◌&&◌, nat_le, nat_lt, filter, flat_map, option_map, option_and_then, option_to_list, unwrap_or, slice_get}
-use Rattle.std.specs.List.{All, list_any}
-use Rattle.rnix_green.specs.Tree.{Tree, Located, item, item_of}
+use Rattle.std.proofs.Common.{◌≡◌, ◌∙◌, ℕ, zero, suc, ◌+◌, ◌-◌, ◌<◌, ◌≤◌, List, [], ◌∷◌, ◌++◌, Bool, true, false, Option, Some, None, refl, ap, sym, subst, arith}
+use Rattle.std.proofs.lemmas.{Bool.{Decides.nat_tests}, Option.none-some, List.{append-nil, Elements.{All-nil, All-cons}}}
+use Rattle.std.specs.Prelude.{if◌then◌else◌, ◌&&◌, nat_le, nat_lt, flat_map, option_and_then, option_to_list, unwrap_or, slice_get}
+use Rattle.std.specs.List.{All}
+use Rattle.rnix_green.specs.Tree.{Located, item, item_of}
 use Rattle.rnix_green.specs.Relatives.{parent_of}
 use Rattle.nix_scopes.specs.declared.name_maps.NameMaps.{NameMaps}
 use Rattle.nix_scopes.specs.declared.places.Place.{Place}
-use Rattle.nix_scopes.specs.NameMaps.{number_in_map, HaveKeys, IsNameMap}
-use Rattle.nix_scopes.specs.Scopes.{Bound, innermost, is_with_body}
+use Rattle.nix_scopes.specs.NameMaps.{number_in_map, IsNameMap}
+use Rattle.nix_scopes.specs.Scopes.{Bound}
 use Rattle.nix_scopes.specs.Owners.{number_around, around_below, if_before, outer_of, around_from, merged_around}
-use Rattle.nix_scopes.specs.Merged.{is_merged_scope}
-use Rattle.nix_scopes.specs.Places.{nowhere, place_at, place_before, place_around, Sees, IsPlace, IsPlaceOf, ArePlaces, KeepsMaps}
-use Rattle.nix_scopes.proofs.NumberLemmas.{get_kept, get_last}
-use Rattle.nix_scopes.proofs.OpeningLemmas.{sees_kept}
+use Rattle.nix_scopes.specs.NodePlaces.{nowhere, place_at, place_before, place_around, IsPlace, IsPlaceOf, ArePlaces}
 
 -- the outer node begins before the inner one
 pub record IsOuter (root e outer : Located) : Type 0 where
@@ -22,8 +19,8 @@ pub record IsOuter (root e outer : Located) : Type 0 where
   pub before : outer.number < e.number
   pub is_node : (item_of outer).is_node ≡ true
 
-outer_if : (root e o outer : Located) (a b c : Bool) → nat_le root.number o.number ≡ a → nat_lt o.number e.number ≡ b → (item_of o).is_node ≡ c → o.tree ≡ e.tree →
-    (if a && (b && c) then Some o else None) ≡ Some outer → IsOuter root e outer
+outer_if : (root e o outer : Located) (a b c : Bool) → nat_le root.number o.number ≡ a → nat_lt o.number e.number ≡ b → (item_of o).is_node ≡ c
+    → o.tree ≡ e.tree → (if a && (b && c) then Some o else None) ≡ Some outer → IsOuter root e outer
 outer_if root e o outer true true true low before node tree is =
     let same : o ≡ outer = ap (λ x. unwrap_or x o) is in
     subst (IsOuter root e) same record {
@@ -78,7 +75,8 @@ around_none root e is =
 -- the nodes around a node begin before it
 around_below_n : (n count : ℕ) (root e : Located) → e.number < n → All (λ (a : Located). a.number < n) (around_from count root e)
 around_below_n n zero root e low = All-nil (λ (a : Located). a.number < n)
-around_below_n n (suc count) root e low = All-cons (λ (a : Located). a.number < n) e _ low (outer (outer_of root e) refl (λ x l. around_below_n n count root x l))
+around_below_n n (suc count) root e low =
+    All-cons (λ (a : Located). a.number < n) e _ low (outer (outer_of root e) refl (λ x l. around_below_n n count root x l))
   where
     outer : (o : Option Located) → outer_of root e ≡ o →
         ((x : Located) → x.number < n → All (λ (a : Located). a.number < n) (around_from count root x)) →
@@ -116,7 +114,8 @@ module _ (root : Located) (bindings : List Bound) (maps : NameMaps) (places : Li
       (if b then (if a then o else None) else None) ≡ place_before places root.number e.number n → (a ≡ true → b ≡ true → o ≡ place_at places root.number n) →
       IsPlaceAround root bindings maps (unwrap_or (if b then (if a then o else None) else None) nowhere) e
   found_place p n true true (Some place) low before is outer same at =
-      let own = subst (λ x. IsPlaceOf root bindings maps x n) (sym (at refl refl)) (are.are n (grind (arith, nat_tests, low)) (grind (arith, nat_tests, before))) in
+      let own = subst (λ x. IsPlaceOf root bindings maps x n) (sym (at refl refl))
+      (are.are n (grind (arith, nat_tests, low)) (grind (arith, nat_tests, before))) in
       let node : (item e.tree n).is_node ≡ true = ap (λ t. (item t n).is_node) tree ∙ own.0 in
       let x : Located = record { tree = e.tree; number = n } in
       let some : outer_of root e ≡ Some x = outer ∙ ap (λ b. if b then Some x else None) node in
@@ -127,7 +126,8 @@ module _ (root : Located) (bindings : List Bound) (maps : NameMaps) (places : Li
         below = around_low e.number root x (grind (arith, nat_tests, before));
       }
   found_place p n true true None low before is outer same at =
-      let own = subst (λ x. IsPlaceOf root bindings maps x n) (sym (at refl refl)) (are.are n (grind (arith, nat_tests, low)) (grind (arith, nat_tests, before))) in
+      let own = subst (λ x. IsPlaceOf root bindings maps x n) (sym (at refl refl))
+      (are.are n (grind (arith, nat_tests, low)) (grind (arith, nat_tests, before))) in
       let token : (item e.tree n).is_node ≡ false = ap (λ t. (item t n).is_node) tree ∙ own in
       alone (outer ∙ ap (λ b. if b then Some record { tree = e.tree; number = n } else None) token)
     where

@@ -1,6 +1,6 @@
 -- The value of a string in `"` whose content is its value.
 use Rattle.std.proofs.Common.{◌≡◌, ◌∙◌, ℕ, Bool, true, false, ◌==◌, List, [], ◌∷◌, Option, Some, None, refl, sym, ap, map, arith}
-use Rattle.std.proofs.lemmas.{Bool.{or_parts, false≢true, Decides.nat_tests}, Option.none-some}
+use Rattle.std.proofs.lemmas.{Bool.{or_parts, Decides.nat_tests}, Option.none-some}
 use Rattle.std.specs.{Prelude.{◌||◌, IfSome, option_map, if◌then◌else◌}, List.list_any}
 use Rattle.rnix_green.specs.Tree.{Located, item_of, text_at}
 use Rattle.rnix_base.specs.{Escapes.{first_piece, unescaped}, Normal.with_text, Parts.is_indented, Value.{indented_value, quoted_value, quoted_text}}

@@ -1,11 +1,11 @@
 -- What the branches of a map have at its keys.
-use Rattle.std.proofs.Common.{◌≡◌, ℕ, zero, suc, ◌+◌, ◌-◌, ◌*◌, ◌/◌, ◌%◌, ◌<◌, ◌≤◌, ◌^◌, List, [], ◌∷◌, ◌++◌, length, get_or, Bool, true, false, refl, ap, sym, ◌∙◌, subst, arith, inl, inr, ◌⊎◌, ◌==◌}
+use Rattle.std.proofs.Common.{◌≡◌, ℕ, zero, suc, ◌/◌, ◌%◌, ◌<◌, ◌≤◌, ◌^◌, List, [], ◌∷◌, ◌++◌, length, Bool, true, false, refl, ap, sym, ◌∙◌, subst, arith, inl, inr, ◌⊎◌, ◌==◌}
 use Rattle.std.proofs.lemmas.List.{get_or_append_left, length_push}
 use Rattle.std.proofs.Math.Seq.{get_or-append_seam}
-use Rattle.std.proofs.lemmas.Bool.{Decides.nat_tests, cases_eq}
-use Rattle.std.specs.Prelude.{nat_eq, if◌then◌else◌}
+use Rattle.std.proofs.lemmas.Bool.{Decides.nat_tests}
+use Rattle.std.specs.Prelude.{if◌then◌else◌}
 use Rattle.nix_scopes.specs.declared.trie.Branch.{Branch}
-use Rattle.nix_scopes.specs.Tries.{key_bits, branch_at, side, value_at, IsWithin, IsMap, IsUpdated}
+use Rattle.nix_scopes.specs.BitTries.{key_bits, branch_at, side, value_at, IsWithin, IsMap, IsUpdated}
 
 -- one bit further
 pub value_next : (bits left : ℕ) (branches : List Branch) (root key : ℕ) → bits ≡ suc left →

@@ -11,7 +11,7 @@ pub mod Alike
 pub mod Owners
 pub mod Merged
 pub mod Resolved
-pub mod Added
-pub mod Places
-pub mod Tries
+pub mod AddedNames
+pub mod NodePlaces
+pub mod BitTries
 pub mod NameMaps

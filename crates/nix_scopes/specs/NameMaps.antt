@@ -1,9 +1,9 @@
 -- Maps from names to the numbers of bindings, stored as keys of names and maps from keys.
-use Rattle.std.specs.Prelude.{◌≡◌, ◌<◌, ◌≤◌, ◌^◌, ℕ, zero, suc, List, [], Option, Some, None, if◌then◌else◌}
+use Rattle.std.specs.Prelude.{◌≡◌, ◌<◌, ◌≤◌, ◌^◌, ℕ, zero, suc, List, Option, Some, None, if◌then◌else◌}
 use Rattle.std.specs.Str.{bytes_eq}
 use Rattle.nix_scopes.specs.declared.name_maps.NameMaps.{NameMaps}
 use Rattle.nix_scopes.specs.Resolving.{number_by}
-use Rattle.nix_scopes.specs.Tries.{key_bits, value_at, IsMap}
+use Rattle.nix_scopes.specs.BitTries.{key_bits, value_at, IsMap}
 
 -- the number that is stored as a value: one less, since 0 means that there is none
 abbrev pub number_stored : ℕ → Option ℕ

@@ -8,7 +8,7 @@ ghost use Rattle.rnix_base.specs.Select.{nodes_of, child_of};
 ghost use Rattle.rnix.specs.NodeKinds.{is_attr};
 ghost use Rattle.rnix.specs.Sums.{attr_node};
 ghost use Rattle.nix_scopes.specs.Binders.{named};
-ghost use Rattle.nix_scopes.specs.Added.{names_in_list, names_for, AreHomes, AddsOwned};
+ghost use Rattle.nix_scopes.specs.AddedNames.{names_in_list, names_for, AreHomes, AddsOwned};
 ghost use Rattle.nix_scopes.specs.Merged.{owned_by, owned_names, owned_in, owned_at, added_to};
 
 use crate::names::{Name, attr_name};

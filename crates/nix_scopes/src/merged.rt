@@ -7,7 +7,7 @@ ghost use Rattle.nix_scopes.specs.Binders.{named};
 ghost use Rattle.nix_scopes.specs.Bound.{bindings_of, references_of, bound_of, resolved_of, AreFirst};
 ghost use Rattle.nix_scopes.specs.Merged.{merged_bindings, merged_references};
 ghost use Rattle.nix_scopes.specs.Names.{named_if};
-ghost use Rattle.nix_scopes.specs.Places.{referring_at, referring_of};
+ghost use Rattle.nix_scopes.specs.NodePlaces.{referring_at, referring_of};
 ghost use Rattle.nix_scopes.specs.References.{inherited_at, references_at};
 ghost use Rattle.nix_scopes.specs.Scopes.{resolved};
 

@@ -2,13 +2,13 @@
 
 ghost use Rattle.std.specs.Prelude.{◌≡◌, ◌++◌, ◌∷◌, [], ℕ, List, Option, Some, map, length, IfOk};
 ghost use Rattle.rnix_green.specs.Tree.{Located};
-ghost use Rattle.nix_scopes.specs.Added.{AreHomes, names_for};
+ghost use Rattle.nix_scopes.specs.AddedNames.{AreHomes, names_for};
 ghost use Rattle.nix_scopes.specs.Binders.{named, names_bound};
 ghost use Rattle.nix_scopes.specs.Bound.{bound_of, AreFirst};
 ghost use Rattle.nix_scopes.specs.Merged.{is_merged_scope, added_to};
 ghost use Rattle.nix_scopes.specs.NameMaps.{number_in_map};
 ghost use Rattle.std.specs.Cow.{cow_str_bytes};
-ghost use Rattle.nix_scopes.specs.Places.{nowhere, place_at, place_before, place_around, place_inside, own_if, IsOpening, KeepsMaps, EntersScope};
+ghost use Rattle.nix_scopes.specs.NodePlaces.{nowhere, place_at, place_before, place_around, place_inside, own_if, IsOpening, KeepsMaps, EntersScope};
 ghost use Rattle.nix_scopes.specs.Scopes.{bound_in};
 
 use crate::added::Added;
@@ -157,7 +157,8 @@ fn bind_names<'t>(
     maps: &mut NameMaps<'t>,
     bindings: &mut Vec<Binding<'t>>,
 ) -> Result<usize, AllocError>
-    ensures bindings { IfOk result (λ made. map bound_of bindings.new.items ≡ map bound_of bindings.old.items ++ map (bound_in scope.now) (map named names.now)) }
+    ensures bindings { IfOk result (λ made. map bound_of bindings.new.items ≡ map bound_of bindings.old.items
+        ++ map (bound_in scope.now) (map named names.now)) }
     ensures opening { IfOk result (λ made. (outer : List ℕ → Option ℕ) → IsOpening outer (map bound_of bindings.old.items) maps.old scope_map first scope.now →
         IsOpening outer (map bound_of bindings.new.items) maps.new made first scope.now) }
     ensures firsts { IfOk result (λ made. (outer : List ℕ → Option ℕ) → IsOpening outer (map bound_of bindings.old.items) maps.old scope_map first scope.now →

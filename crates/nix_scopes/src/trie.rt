@@ -1,7 +1,7 @@
 //! Maps from numbers to numbers that share what they have in common.
 
 ghost use Rattle.std.specs.Prelude.{◌≡◌, ◌<◌, ◌⊎◌, ◌==◌, ℕ, IfOk};
-ghost use Rattle.nix_scopes.specs.Tries.{key_bits, branch_at, side, value_at, IsMap, IsUpdated};
+ghost use Rattle.nix_scopes.specs.BitTries.{key_bits, branch_at, side, value_at, IsMap, IsUpdated};
 
 use std::alloc::{AllocError, Global};
 

@@ -11,7 +11,8 @@ loop-attr-preserved c = record {
   some = path_next c.args.attributes.now c.loop-attr.attributes c.add_name.new.attributes (names_of c.args.owner c.args.set (nodes_of is_attr c.args.path.now))
       c.loop-attr.before c.number-number.result c.loop-attr.continues c.args.set (attr_node c.loop-attr.last) (attr_node c.in-Some-attr.attr)
       (those_of is_attr c.loop-attr.attr-iterator) (those_of is_attr c.next-in-loop-attr.new.self)
-      (c.number-number.ensures ∙ ap (λ (e : Located). e.number) c.syntax.ensures.node) c.loop-attr.invariant.some c.in-Some-attr.ensures.steps c.in_ok-add_name.ensures;
+      (c.number-number.ensures ∙ ap (λ (e : Located). e.number) c.syntax.ensures.node)
+      c.loop-attr.invariant.some c.in-Some-attr.ensures.steps c.in_ok-add_name.ensures;
 }
 
 pub returns : goal.returns

@@ -1,5 +1,5 @@
 use Rattle.{std.specs.Prelude.flat_map, rnix_base.specs.Select.{nodes_of, those_of}, rnix_green.specs.Tree.Located, rnix.specs.NodeKinds.is_attr}
-use Rattle.nix_scopes.specs.{Added.AreHomes, Merged.owned_by}
+use Rattle.nix_scopes.specs.{AddedNames.AreHomes, Merged.owned_by}
 use Rattle.nix_scopes.proofs.AddedOwnedLemmas.{AddsMost}
 use Rattle.nix_scopes.proofs.added.add_inherited.Given as goal
 

@@ -1,5 +1,5 @@
 use Rattle.{rnix_base.specs.Select.{nodes_of, those_of}, rnix_green.specs.Tree.Located, rnix.specs.NodeKinds.is_attr}
-use Rattle.nix_scopes.specs.{Added.AreHomes, Merged.owned_names}
+use Rattle.nix_scopes.specs.{AddedNames.AreHomes, Merged.owned_names}
 use Rattle.nix_scopes.proofs.AddedOwnedLemmas.{AddsMost}
 use Rattle.nix_scopes.proofs.added.add_path.Given as goal
 

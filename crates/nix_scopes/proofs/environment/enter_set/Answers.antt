@@ -1,5 +1,5 @@
 use Rattle.std.{proofs.{Common.{rules, ◌≡◌, ◌++◌, ◌-◌, [], ◌∷◌, ◌∙◌, true, false, ap, sym, subst}, lemmas.Bool.{cond-true, cond-false}}}
-use Rattle.nix_scopes.{specs.{Binders.is_scope, Resolving.{HasSets, is_set, which_are_scopes}}, proofs.EndLemmas.end_added}
+use Rattle.nix_scopes.{specs.{Binders.is_scope, Resolving.{HasSets, is_set}}, proofs.EndLemmas.end_added}
 use Rattle.nix_scopes.proofs.environment.enter_set.Goals as goal
 
 pub returns-in_ok-push-2 : goal.returns-in_ok-push-2

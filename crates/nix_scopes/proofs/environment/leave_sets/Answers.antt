@@ -1,5 +1,5 @@
-use Rattle.std.proofs.Common.{rules, ◌≡◌, ◌-◌, ◌∙◌, ◌∷◌, length, take, ap, sym}
-use Rattle.{rnix_green.specs.Tree.Located, nix_scopes.{specs.Resolving.{has_ended, which_are_scopes}, proofs.EndLemmas.{one_remaining, all_remaining, scopes_remaining}}}
+use Rattle.std.proofs.Common.{rules, ◌≡◌, ◌-◌, ◌∙◌, length, take, ap, sym}
+use Rattle.{nix_scopes.{specs.Resolving.{has_ended, which_are_scopes}, proofs.EndLemmas.{one_remaining, all_remaining, scopes_remaining}}}
 use Rattle.nix_scopes.proofs.environment.leave_sets.Goals as goal
 
 pub loop-ends-preserved : goal.loop-ends-preserved

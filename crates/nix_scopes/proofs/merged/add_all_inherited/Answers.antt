@@ -1,6 +1,6 @@
 use Rattle.{std.proofs.Common.{◌≡◌, ◌++◌, ◌∙◌, map, true, None, ap, sym, refl, rules}, rnix_base.specs.Select.those_of, rnix.specs.NodeKinds.is_attr}
 use Rattle.{rnix.specs.{AttrName.static_name, Sums.attr_node}, nix_scopes.specs.{Names.{named_if, names_written}, Bound.resolved_of, References.inherited_at}}
-use Rattle.nix_scopes.{specs.{References.inherited_from, Places.referring_at}, proofs.ResolvingLemmas.mapped_next}
+use Rattle.nix_scopes.{specs.{References.inherited_from, NodePlaces.referring_at}, proofs.ResolvingLemmas.mapped_next}
 use Rattle.nix_scopes.proofs.merged.add_all_inherited.Goals as goal
 
 pub loop-attr-init : goal.loop-attr-init

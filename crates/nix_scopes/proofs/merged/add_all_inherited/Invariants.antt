@@ -1,5 +1,5 @@
 use Rattle.{std.proofs.Common.{◌≡◌, ◌++◌, map, true}, rnix_base.specs.Select.those_of, rnix.specs.NodeKinds.is_attr, nix_scopes.specs.Names.names_written}
-use Rattle.nix_scopes.specs.{Bound.resolved_of, References.inherited_at, Places.referring_at}
+use Rattle.nix_scopes.specs.{Bound.resolved_of, References.inherited_at, NodePlaces.referring_at}
 use Rattle.nix_scopes.proofs.merged.add_all_inherited.Given as goal
 
 abbrev pub invariant-loop-attr : goal.invariant-loop-attr

@@ -1,8 +1,7 @@
-use Rattle.std.proofs.Common.{◌≡◌, ◌∙◌, ◌∷◌, [], ◌++◌, List, ap, subst, sym}
+use Rattle.std.proofs.Common.{◌≡◌, ◌∙◌, ◌∷◌, [], ◌++◌, ap, subst}
 use Rattle.rnix_tree.specs.Spots.{spot_of}
 use Rattle.nix_scopes.specs.declared.places.Place.{Place}
-use Rattle.nix_scopes.specs.declared.name_maps.NameMaps.{NameMaps}
-use Rattle.nix_scopes.specs.Places.{place_around}
+use Rattle.nix_scopes.specs.NodePlaces.{place_around}
 use Rattle.nix_scopes.proofs.MergedLemmas.{walked_node, walked_token, walked_same}
 use Rattle.nix_scopes.proofs.merged.resolve_merged.Goals.{in-Node+in_ok-inside+in_ok-add_references, in_default}
 use Rattle.nix_scopes.proofs.merged.resolve_merged.Goals as goal

@@ -1,7 +1,7 @@
 use Rattle.std.proofs.{Common.{rules, ◌≡◌, ◌∙◌, [], ◌∷◌, ◌++◌, length, map, Some, None, refl, subst, sym, ap}, lemmas.List.{map_push, length-map}}
 use Rattle.std.specs.{Cow.cow_str_bytes, Prelude.unwrap_or}
-use Rattle.nix_scopes.specs.{Binders.named, Scopes.{bound_in, number_in}, Bound.bound_of, NameMaps.{number_in_map, IsBound}, Places.{own_if, IsOpening}}
-use Rattle.nix_scopes.proofs.{ScopeLemmas.firsts_more, OpeningLemmas.{opening_again, opening_new, keeps_bound}}
+use Rattle.nix_scopes.specs.{Binders.named, Scopes.{bound_in, number_in}, Bound.bound_of, NameMaps.{number_in_map, IsBound}, NodePlaces.{own_if, IsOpening}}
+use Rattle.nix_scopes.proofs.{ScopeLemmas.firsts_more, OpeningLemmas.{opening_again, opening_new}}
 use Rattle.nix_scopes.proofs.places.bind_name.Goals as goal
 
 pub returns-in-Some-clause-opening : goal.returns-in-Some-clause-opening
@@ -21,7 +21,8 @@ returns-in-Some-clause-firsts c = λ outer h firsts.
     let bound : map bound_of c.push.new.self.items ≡ map bound_of c.args.bindings.now.items ++ b ∷ [] =
     search (c.in_ok-push.ensures.items, c.in_ok-copied.ensures, c.clone.ensures, c.clone-2.ensures, map_push, rules) in
     let own : own_if c.args.first (number_in_map c.args.maps.now c.args.scope_map b.text) ≡ Some c.in-Some.field-0 = sym c.in_ok-own.ensures ∙ c.in-Some.is in
-    let found = (opening_again outer (map bound_of c.args.bindings.now.items) c.args.maps.now c.args.scope_map c.args.first scope h b refl c.in-Some.field-0 own).1 in
+    let found =
+    (opening_again outer (map bound_of c.args.bindings.now.items) c.args.maps.now c.args.scope_map c.args.first scope h b refl c.in-Some.field-0 own).1 in
     let first : c.unwrap_or.result ≡ c.in-Some.field-0 = c.unwrap_or.ensures ∙ ap (λ o. unwrap_or o c.len-number.result) c.in-Some.is in
     firsts_more c.args.bindings.now.items c.push.new.self.items _ c.in_ok-push.ensures.items
     (subst (λ text. number_in (map bound_of c.push.new.self.items) text c.clone-2.result ≡ Some c.unwrap_or.result) (sym c.in_ok-copied.ensures)

@@ -1,4 +1,4 @@
-use Rattle.{std.proofs.{Common.{rules, map, sym}, lemmas.List.append-nil}, nix_scopes.specs.{Binders.named, Scopes.bound_in, Bound.bound_of}}
+use Rattle.{std.proofs.{Common.{map, sym}, lemmas.List.append-nil}, nix_scopes.specs.{Binders.named, Scopes.bound_in, Bound.bound_of}}
 use Rattle.nix_scopes.proofs.{ScopeLemmas.mapped_more, OpeningLemmas.{keeps_same, keeps_twice}}
 use Rattle.nix_scopes.proofs.places.bind_names.Goals as goal
 

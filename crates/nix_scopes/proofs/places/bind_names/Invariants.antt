@@ -1,5 +1,5 @@
 use Rattle.{std.proofs.Common.{◌≡◌, ℕ, List, Option, ◌++◌, map, take}, nix_scopes.specs.{Binders.named, Bound.{bound_of, AreFirst}, Scopes.bound_in}}
-use Rattle.nix_scopes.specs.Places.{IsOpening, KeepsMaps}
+use Rattle.nix_scopes.specs.NodePlaces.{IsOpening, KeepsMaps}
 use Rattle.nix_scopes.proofs.places.bind_names.Given as goal
 
 abbrev pub invariant-loop-name : goal.invariant-loop-name

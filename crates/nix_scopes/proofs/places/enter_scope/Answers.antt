@@ -1,5 +1,5 @@
-use Rattle.std.proofs.Common.{rules, ◌≡◌, ◌∙◌, [], ◌++◌, length, map, true, Some, None, refl, ap, sym, append-nil}
-use Rattle.nix_scopes.specs.{Added.{names_in_list, names_for}, Binders.named, Bound.bound_of, Merged.is_merged_scope}
+use Rattle.std.proofs.Common.{rules, ◌≡◌, ◌∙◌, [], length, map, true, Some, ap, sym, append-nil}
+use Rattle.nix_scopes.specs.{AddedNames.{names_in_list, names_for}, Binders.named, Bound.bound_of}
 use Rattle.nix_scopes.proofs.OpeningLemmas.{keeps_same, entered}
 use Rattle.nix_scopes.proofs.places.enter_scope.Goals as goal
 

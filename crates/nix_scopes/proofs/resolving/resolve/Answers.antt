@@ -1,7 +1,7 @@
-use Rattle.std.proofs.Common.{rules, ◌≡◌, ◌∙◌, true, false, refl, ap, sym}
+use Rattle.std.proofs.Common.{rules, ◌≡◌, ◌∙◌, true, refl, ap, sym}
 use Rattle.std.specs.Prelude.{if◌then◌else◌}
-use Rattle.nix_scopes.specs.{Bound.references_of, Owners.{may_merge, merged_around}, Merged.{merged_bindings, merged_references, merged_among}}
-use Rattle.nix_scopes.specs.Scopes.{lexical_bindings, lexical_references, around, resolved_among}
+use Rattle.nix_scopes.specs.{Bound.references_of, Owners.{may_merge, merged_around}, Merged.{merged_bindings, merged_among}}
+use Rattle.nix_scopes.specs.Scopes.{lexical_bindings, around, resolved_among}
 use Rattle.nix_scopes.proofs.ResolvingLemmas.{names_resolved}
 use Rattle.nix_scopes.proofs.resolving.resolve.Goals as goal
 

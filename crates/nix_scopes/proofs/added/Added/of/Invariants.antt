@@ -1,5 +1,5 @@
 use Rattle.{std.specs.Prelude.flat_map, rnix_green.specs.{Tree.Located, Walk.{nodes_in, elements_of}}}
-use Rattle.nix_scopes.specs.{Added.AreHomes, Merged.owned_at}
+use Rattle.nix_scopes.specs.{AddedNames.AreHomes, Merged.owned_at}
 use Rattle.nix_scopes.proofs.AddedOwnedLemmas.{AddsMost}
 use Rattle.nix_scopes.proofs.added.Added.of.Given as goal
 

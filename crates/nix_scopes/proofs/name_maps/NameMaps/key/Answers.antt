@@ -1,6 +1,6 @@
-use Rattle.std.proofs.Common.{rules, ◌≡◌, ◌∙◌, ◌<◌, ◌^◌, Some, None, refl, sym, arith}
+use Rattle.std.proofs.Common.{rules, ◌≡◌, ◌∙◌, Some, None, refl, sym, arith}
 use Rattle.std.specs.{Cow.cow_str_bytes, Str.bytes_eq}
-use Rattle.nix_scopes.specs.{Resolving.number_by, Tries.key_bits}
+use Rattle.nix_scopes.specs.{Resolving.number_by, BitTries.key_bits}
 use Rattle.nix_scopes.proofs.{NumberLemmas.{assigned_once, key_updated, number_at}, NameMapLemmas.{key_known, key_added}}
 use Rattle.nix_scopes.proofs.name_maps.NameMaps.key.Goals as goal
 

@@ -1,6 +1,6 @@
 use Rattle.std.proofs.Common.{◌≡◌, ◌∙◌, ◌-◌, suc, ◌+◌, arith, ap, sym, ◌%◌, ◌/◌}
 use Rattle.nix_scopes.specs.declared.trie.Branch.{Branch}
-use Rattle.nix_scopes.specs.Tries.{key_bits, branch_at, side, value_at}
+use Rattle.nix_scopes.specs.BitTries.{key_bits, branch_at, side, value_at}
 use Rattle.nix_scopes.proofs.TrieLemmas.{value_next, value_last}
 use Rattle.nix_scopes.proofs.trie.Tries.get.Goals as goal
 

@@ -1,5 +1,5 @@
 use Rattle.std.proofs.Common.{◌≡◌, ◌≤◌, ◌-◌}
-use Rattle.nix_scopes.specs.Tries.{key_bits, value_at}
+use Rattle.nix_scopes.specs.BitTries.{key_bits, value_at}
 use Rattle.nix_scopes.proofs.trie.Tries.get.Given as goal
 
 abbrev pub invariant-loop-bit : goal.invariant-loop-bit

@@ -1,8 +1,8 @@
-use Rattle.std.proofs.Common.{◌≡◌, ◌∙◌, ◌<◌, ◌≤◌, ◌-◌, suc, ◌+◌, arith, ap, sym, subst, ◌%◌, ◌/◌, length, rules}
+use Rattle.std.proofs.Common.{◌≡◌, ◌∙◌, ◌-◌, suc, ◌+◌, arith, ap, sym, subst, ◌%◌, ◌/◌, length, rules}
 use Rattle.std.proofs.lemmas.List.{length_push}
 use Rattle.nix_scopes.specs.declared.trie.Branch.{Branch}
-use Rattle.nix_scopes.specs.Tries.{key_bits, branch_at, side, IsWithin}
-use Rattle.nix_scopes.proofs.TrieLemmas.{Extends, extends_same, extends_push, extends_less, within_after, IsWay, way_more, way_last, updated}
+use Rattle.nix_scopes.specs.BitTries.{key_bits, branch_at, side, IsWithin}
+use Rattle.nix_scopes.proofs.TrieLemmas.{extends_same, extends_push, extends_less, within_after, IsWay, way_more, way_last, updated}
 use Rattle.nix_scopes.proofs.trie.Tries.with.Goals.{then-bit-lt-KEY_BITS, else-bit-lt-KEY_BITS}
 use Rattle.nix_scopes.proofs.trie.Tries.with.Goals as goal
 

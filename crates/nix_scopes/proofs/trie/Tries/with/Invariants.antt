@@ -1,6 +1,6 @@
-use Rattle.std.proofs.Common.{◌≡◌, ◌≤◌, ◌<◌, ◌-◌, ℕ, List, length}
+use Rattle.std.proofs.Common.{◌≡◌, ◌≤◌, ◌<◌, ◌-◌, List, length}
 use Rattle.nix_scopes.specs.declared.trie.Branch.{Branch}
-use Rattle.nix_scopes.specs.Tries.{key_bits, IsWithin}
+use Rattle.nix_scopes.specs.BitTries.{key_bits, IsWithin}
 use Rattle.nix_scopes.proofs.TrieLemmas.{Extends, IsWay}
 use Rattle.nix_scopes.proofs.trie.Tries.with.Given as goal
 

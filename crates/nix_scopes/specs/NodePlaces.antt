@@ -1,5 +1,5 @@
 -- What a walk knows about the nodes that it has visited.
-use Rattle.std.specs.Prelude.{◌≡◌, ◌<◌, ◌≤◌, ◌-◌, ◌+◌, ◌++◌, ◌||◌, ℕ, nat_le, nat_lt, Bool, true, false, List, [], ◌∷◌, length, map, drop, filter, Option, Some, None, option_and_then, unwrap_or, slice_get, if◌then◌else◌}
+use Rattle.std.specs.Prelude.{◌≡◌, ◌<◌, ◌≤◌, ◌-◌, ◌+◌, ◌++◌, ◌||◌, ℕ, nat_le, nat_lt, Bool, true, false, List, ◌∷◌, length, map, drop, filter, Option, Some, None, option_and_then, unwrap_or, slice_get, if◌then◌else◌}
 use Rattle.std.specs.List.{All, list_any}
 use Rattle.std.specs.Option.{option_or}
 use Rattle.rnix_kinds.specs.declared.kinds.SyntaxKind.TheVariants as k

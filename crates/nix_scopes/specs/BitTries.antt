@@ -1,5 +1,5 @@
 -- Maps from numbers to numbers that share branches: binary trees over the bits of a number, the lowest bit first.
-use Rattle.std.specs.Prelude.{◌≡◌, ◌<◌, ◌≤◌, ◌==◌, ◌/◌, ◌%◌, ◌^◌, ◌++◌, ℕ, zero, suc, List, length, get_or, if◌then◌else◌}
+use Rattle.std.specs.Prelude.{◌≡◌, ◌<◌, ◌==◌, ◌/◌, ◌%◌, ◌^◌, ℕ, zero, suc, List, length, get_or, if◌then◌else◌}
 use Rattle.nix_scopes.specs.declared.trie.Branch.{Branch}
 use Rattle.nix_scopes.specs.declared.trie.TheConstants.{KEY_BITS}
 
