@@ -74,6 +74,16 @@ pub record IsOpening (outer : List ℕ → Option ℕ) (bindings : List Bound) (
   pub within : (text : List ℕ) (number : ℕ) → number_in bindings text scope ≡ Some number → (first ≤ number) × (number < length bindings)
   pub few : first ≤ length bindings
 
+-- a scope that was binding its names is still binding them, with another map and more bindings
+abbrev pub KeepsOpening : List Binding → List Binding → NameMaps → NameMaps → ℕ → ℕ → ℕ → Located → Type 0
+KeepsOpening bindings more old new own made first scope = (outer : List ℕ → Option ℕ) →
+    IsOpening outer (map bound_of bindings) old own first scope → IsOpening outer (map bound_of more) new made first scope
+
+-- the bindings that a scope adds while it is binding its names know the first of their name
+abbrev pub KeepsFirsts : List Binding → List Binding → NameMaps → ℕ → ℕ → Located → Type 0
+KeepsFirsts bindings more old own first scope = (outer : List ℕ → Option ℕ) →
+    IsOpening outer (map bound_of bindings) old own first scope → AreFirst bindings → AreFirst more
+
 -- all maps are as they were
 pub record KeepsMaps (old new : NameMaps) : Type 0 where
   pub keys : HaveKeys old → HaveKeys new

@@ -8,7 +8,7 @@ ghost use Rattle.nix_scopes.specs.Bound.{bound_of, AreFirst};
 ghost use Rattle.nix_scopes.specs.Merged.{is_merged_scope, added_to};
 ghost use Rattle.nix_scopes.specs.NameMaps.{number_in_map};
 ghost use Rattle.std.specs.Cow.{cow_str_bytes};
-ghost use Rattle.nix_scopes.specs.NodePlaces.{nowhere, place_at, place_before, place_around, place_inside, own_if, IsOpening, KeepsMaps, EntersScope};
+ghost use Rattle.nix_scopes.specs.NodePlaces.{nowhere, place_at, place_before, place_around, place_inside, own_if, KeepsOpening, KeepsFirsts, KeepsMaps, EntersScope};
 ghost use Rattle.nix_scopes.specs.Scopes.{bound_in};
 
 use crate::added::Added;
@@ -127,11 +127,11 @@ fn bind_name<'t>(
     maps: &mut NameMaps<'t>,
     bindings: &mut Vec<Binding<'t>>,
 ) -> Result<usize, AllocError>
-    ensures bindings { IfOk result (λ made. map bound_of bindings.new.items ≡ map bound_of bindings.old.items ++ bound_in scope.now (named name.now) ∷ []) }
-    ensures opening { IfOk result (λ made. (outer : List ℕ → Option ℕ) → IsOpening outer (map bound_of bindings.old.items) maps.old scope_map first scope.now →
-        IsOpening outer (map bound_of bindings.new.items) maps.new made first scope.now) }
-    ensures firsts { IfOk result (λ made. (outer : List ℕ → Option ℕ) → IsOpening outer (map bound_of bindings.old.items) maps.old scope_map first scope.now →
-        AreFirst bindings.old.items → AreFirst bindings.new.items) }
+    ensures bindings { IfOk result (λ made. map bound_of bindings.new.items ≡ map bound_of bindings.old.items
+        ++ bound_in scope.now (named name.now) ∷ []) }
+    ensures opening { IfOk result (λ made.
+        KeepsOpening bindings.old.items bindings.new.items maps.old maps.new scope_map made first scope.now) }
+    ensures firsts { IfOk result (λ made. KeepsFirsts bindings.old.items bindings.new.items maps.old scope_map first scope.now) }
     ensures kept { IfOk result (λ made. KeepsMaps maps.old maps.new) }
 {
     let number = bindings.len();
@@ -159,10 +159,9 @@ fn bind_names<'t>(
 ) -> Result<usize, AllocError>
     ensures bindings { IfOk result (λ made. map bound_of bindings.new.items ≡ map bound_of bindings.old.items
         ++ map (bound_in scope.now) (map named names.now)) }
-    ensures opening { IfOk result (λ made. (outer : List ℕ → Option ℕ) → IsOpening outer (map bound_of bindings.old.items) maps.old scope_map first scope.now →
-        IsOpening outer (map bound_of bindings.new.items) maps.new made first scope.now) }
-    ensures firsts { IfOk result (λ made. (outer : List ℕ → Option ℕ) → IsOpening outer (map bound_of bindings.old.items) maps.old scope_map first scope.now →
-        AreFirst bindings.old.items → AreFirst bindings.new.items) }
+    ensures opening { IfOk result (λ made.
+        KeepsOpening bindings.old.items bindings.new.items maps.old maps.new scope_map made first scope.now) }
+    ensures firsts { IfOk result (λ made. KeepsFirsts bindings.old.items bindings.new.items maps.old scope_map first scope.now) }
     ensures kept { IfOk result (λ made. KeepsMaps maps.old maps.new) }
 {
     let mut made = scope_map;

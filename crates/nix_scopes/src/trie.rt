@@ -11,8 +11,8 @@ pub const KEY_BITS: usize = 32;
 /// What a map has at the even and at the odd keys, or rather at the keys of which so many lower bits are known.
 #[derive(Clone, Copy)]
 pub struct Branch {
-    pub even: usize,
-    pub odd: usize,
+    pub even: u32,
+    pub odd: u32,
 }
 
 /// Maps from keys below 2^32 to numbers. Each is a binary tree, whose branches other maps share; it is known by the number of its first branch. Where a map
@@ -36,11 +36,25 @@ fn branch_at(branches: &[Branch], number: usize) -> Branch
 fn side(branch: Branch, bit: usize) -> usize
     ensures { result ≡ side branch bit }
 {
-    if bit == 0 { branch.even } else { branch.odd }
+    if bit == 0 {
+        branch.even as usize
+    } else {
+        branch.odd as usize
+    }
+}
+
+// Returns a number as a branch stores it, in half of the memory. What does not fit is refused as if memory had run out.
+fn stored(number: usize) -> Result<u32, AllocError>
+    ensures { IfOk result (λ stored. stored ≡ number) }
+{
+    match u32::try_from(number) {
+        Ok(stored) => Ok(stored),
+        Err(_) => Err(AllocError),
+    }
 }
 
 // Returns a branch with another number at one side.
-fn with_side(branch: Branch, bit: usize, number: usize) -> Branch
+fn with_side(branch: Branch, bit: usize, number: u32) -> Branch
     ensures own { side result bit ≡ number }
     ensures other { (b : ℕ) → ((b == 0) ≡ (bit == 0)) ⊎ (side result b ≡ side branch b) }
 {
@@ -96,7 +110,7 @@ impl Tries {
             } else {
                 number
             };
-            self.branches.push(with_side(old, bits % 2, next))?;
+            self.branches.push(with_side(old, bits % 2, stored(next)?))?;
             at = side(old, bits % 2);
             bits /= 2;
         }

@@ -48,7 +48,8 @@ loop-bit-preserved c =
           c.loop-bit.invariant.way w final (extends_less now c.push.new.self.items final c.with_side.result c.in_ok-push.ensures.items longer)
           (way_more _ _ old now c.push.new.self.items final c.loop-bit.at c.loop-bit.next c.loop-bit.bits c.args.number c.if-bit-lt-KEY_BITS.next
           c.with_side.result c.branch_at-old.result one h c.in_ok-push.ensures.items
-          (c.loop-bit.invariant.next_is (omega (arith, c.loop-bit-test.true))) was (c.loop-bit.invariant.within w) c.with_side.ensures.own
+          (c.loop-bit.invariant.next_is (omega (arith, c.loop-bit-test.true))) was (c.loop-bit.invariant.within w)
+          (c.with_side.ensures.own ∙ c.in_ok-stored.ensures)
           c.with_side.ensures.other longer
           (subst (λ n. IsWay (key_bits - (c.loop-bit.bit + 1)) old final n c.if-bit-lt-KEY_BITS.next (c.loop-bit.bits / 2) c.args.number) (after w) way));
     }
