@@ -439,8 +439,9 @@ int64_t rnix_names(const uint8_t *text, size_t len, struct rnix_binding *binding
                    size_t reference_room, uint64_t *reference_count);
 
 /*
- * Writes what rnix_names writes. If the text has no errors, it is not parsed: `ranges` and `links`, each with its length, and `error_count` are what
- * rnix_parse_compact or rnix_parse_again has written for the text. They are not checked: with others, the behavior is undefined.
+ * Writes what rnix_names writes. If the text has no errors, it is not parsed: `ranges`, `links` and `error_count` are what rnix_parse_compact or
+ * rnix_parse_again has written for the text: all of its elements. `range_count` and `link_count` are the number of elements that it returned, not the
+ * room of the arrays. Nothing of this is checked: with other arrays or numbers, the behavior is undefined.
  * Returns the number of bindings. Refusals: RNIX_NOT_UTF8, RNIX_TOO_LONG, RNIX_NO_MEMORY.
  */
 int64_t rnix_names_again(const uint8_t *text, size_t len, const struct rnix_range *ranges, size_t range_count, const struct rnix_link *links,
