@@ -6,6 +6,7 @@ use crate::features::delta::Sent;
 use crate::json::Value;
 use crate::protocol::{positions_of, uri_of, Failure};
 use crate::text::{Encoding, Text};
+use crate::uri::canonical;
 use rnix::{Parse, Root};
 use std::cell::{OnceCell, RefCell};
 use std::collections::HashMap;
@@ -110,14 +111,15 @@ impl Documents {
     /// The parameters have no name or no text. The text of a document with the name that is open already is not known then.
     pub fn open(&mut self, params: &Value, encoding: Encoding) -> Result<(), Failure> {
         let uri = uri_of(params)?.to_owned();
+        let name = canonical(&uri);
         let Some(text) = params.at(&["textDocument", "text"]).and_then(Value::as_str) else {
-            if let Some(document) = self.open.get_mut(&uri) {
+            if let Some(document) = self.open.get_mut(&name) {
                 document.lose();
             }
             return Err(Failure::params("textDocument.text is missing"));
         };
         let document = Document {
-            uri: uri.clone(),
+            uri,
             version: params.at(&["textDocument", "version"]).cloned(),
             text: Text::new(text.to_owned(), encoding),
             sent: RefCell::default(),
@@ -127,7 +129,7 @@ impl Documents {
             earlier: RefCell::default(),
             analysis: OnceCell::new(),
         };
-        self.open.insert(uri, document);
+        self.open.insert(name, document);
         Ok(())
     }
 
@@ -140,7 +142,7 @@ impl Documents {
             self.lose_all();
             return uri_of(params).map(|_| ());
         };
-        let document = self.open.get_mut(uri).ok_or_else(not_open)?;
+        let document = self.open.get_mut(&canonical(uri)).ok_or_else(not_open)?;
         let changes = params.get("contentChanges").and_then(Value::as_array);
         let changes = changes.ok_or_else(|| Failure::params("contentChanges is missing"));
         let outcome = changes.and_then(|changes| document.apply_all(changes, encoding));
@@ -156,7 +158,7 @@ impl Documents {
 
     /// Marks a document as lost, whose text may have changed in a way that is not known, if it is open.
     pub fn lose(&mut self, uri: &str) {
-        self.open.get_mut(uri).into_iter().for_each(Document::lose);
+        self.open.get_mut(&canonical(uri)).into_iter().for_each(Document::lose);
     }
 
     /// Marks all documents as lost.
@@ -179,7 +181,7 @@ impl Documents {
     /// # Errors
     /// It is not open.
     pub fn close(&mut self, params: &Value) -> Result<String, Failure> {
-        let document = self.open.remove(uri_of(params)?).ok_or_else(not_open)?;
+        let document = self.open.remove(&canonical(uri_of(params)?)).ok_or_else(not_open)?;
         Ok(document.uri)
     }
 
@@ -188,7 +190,7 @@ impl Documents {
     /// # Errors
     /// It is not open, or lost.
     pub fn get(&self, params: &Value) -> Result<&Document, Failure> {
-        let document = self.open.get(uri_of(params)?).ok_or_else(not_open)?;
+        let document = self.open.get(&canonical(uri_of(params)?)).ok_or_else(not_open)?;
         if document.is_lost {
             return Err(lost(&document.uri));
         }

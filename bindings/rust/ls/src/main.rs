@@ -14,6 +14,7 @@ mod request;
 mod server;
 mod text;
 mod transport;
+mod uri;
 
 use std::io::{self, BufWriter, Write};
 use std::process::ExitCode;

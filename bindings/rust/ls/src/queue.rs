@@ -6,6 +6,7 @@
 use crate::json::Value;
 use crate::protocol::{uri_of, Code, Failure};
 use crate::transport::{self, Frame};
+use crate::uri::same;
 use std::borrow::Cow;
 use std::collections::VecDeque;
 use std::io::{BufReader, Read};
@@ -119,7 +120,7 @@ fn passing(message: &Incoming, uri: Option<&str>) -> Option<Value> {
     };
     let method = value.get("method")?.as_str()?.strip_prefix("textDocument/")?;
     let own = uri_of(value.get("params")?).ok()?;
-    let is_passing = method != "completion" && uri.map_or(true, |uri| uri == own);
+    let is_passing = method != "completion" && uri.map_or(true, |uri| same(uri, own));
     value.get("id").filter(|_| is_passing).cloned()
 }
 
@@ -148,7 +149,7 @@ impl Waiting {
     // Marks the requests about a document that changes now, or about any. Those before its last change have been marked.
     fn pass(&mut self, uri: Option<&str>) {
         for (message, _) in self.messages.iter_mut().rev() {
-            if uri.is_some() && changed(message) == uri {
+            if uri.is_some_and(|uri| changed(message).is_some_and(|changed| same(changed, uri))) {
                 return;
             }
             if let Some(id) = passing(message, uri) {

@@ -88,6 +88,15 @@ class Features(unittest.TestCase):
             pass
         self.assertEqual(self.client.at("hover", (0, 0), "file:///other.nix")["code"], -32602)
 
+    def test_spellings_of_a_uri_are_one_document(self):
+        name, other = "file:///a%20%C3%A4.nix", "file:///%61 %c3%a4.nix"
+        self.client.open("a: b", name)
+        self.client.change(((0, 3), (0, 4), "a"), uri=other)
+        (found,) = self.client.at("definition", (0, 3), other)
+        self.assertEqual((found["uri"], span(found)), (name, (0, 0, 0, 1)))
+        self.client.tell("textDocument/didClose", {"textDocument": {"uri": other}})
+        self.assertEqual(self.client.at("hover", (0, 0), name)["code"], -32602)
+
     def test_definition_leads_to_where_a_name_is_bound(self):
         for use, binding in [
             (find("version}"), places("version")[1]),
