@@ -11,7 +11,7 @@ use std::env;
 use std::io::{self, Write};
 
 /// The version that `--version` prints for every program.
-pub const VERSION: &str = "0.14.0";
+pub const VERSION: &str = "1.0.0";
 // The options that every program has, as `--help` prints them.
 const COMMON: &str = "    --help     print this
     --version  print the version

@@ -1,7 +1,6 @@
-//! Finding and reading files.
+//! Finding files.
 
 ghost use Rattle.std.specs.Prelude.{◌≡◌};
-ghost use Rattle.std.specs.Io.KnownBytes.{Keeps};
 ghost use Rattle.nix_cli.specs.MessageLocations.{display_name};
 ghost use Rattle.nix_cli.specs.Statuses.{first_status};
 
@@ -10,8 +9,8 @@ use crate::ending::FAILED;
 use crate::file_replacement::replace_text;
 use std::alloc::AllocError;
 use std::fs::FileType;
-use std::io::{Read, Write};
-use std::{fmt, fs, io};
+use std::io::Write;
+use std::{fs, io};
 
 /// The files that the arguments name.
 #[derive(Drop)]
@@ -180,8 +179,8 @@ pub fn find_files(rt: &HostRuntime, program: &Program, names: &[String]) -> io::
     Ok(inputs_of(rt, program, names, Links::Skipped)?.files)
 }
 
-/// Returns the files that the arguments name, for [`Inputs::read_text`]. `-` and no names mean standard input. A folder means the regular files in it, and in
-/// the folders in it, whose names end with `.nix`, and symbolic links with such names to regular files or to nothing; anything else with such a name is skipped
+/// Returns the files that the arguments name, for [`TextReader::read_text`]. `-` and no names mean standard input. A folder means the regular files in it, and
+/// in the folders in it, whose names end with `.nix`, and symbolic links with such names to regular files or to nothing; anything else with such a name is skipped
 /// and reported. Any other name is a file. A folder that cannot be read is reported and counted.
 pub fn find_inputs(rt: &HostRuntime, program: &Program, names: &[String]) -> io::Result<Inputs> {
     inputs_of(rt, program, names, Links::Read)
@@ -224,8 +223,8 @@ pub fn display_name(name: &str) -> &str
     if name == "-" { "<stdin>" } else { name }
 }
 
-// Returns the line and the column at the end of a text, both from 1. Columns count characters.
-fn end_location(text: &str) -> (usize, usize) {
+/// Returns the line and the column at the end of a text, both from 1. Columns count characters.
+pub(crate) fn end_location(text: &str) -> (usize, usize) {
     let line = text.bytes().filter(|byte| *byte == b'\n').count();
     let own = match text.rsplit_once('\n') {
         Some((_, own)) => own,
@@ -242,95 +241,15 @@ pub fn location_of(text: &str, offset: usize) -> (usize, usize) {
     end_location(text.get(..offset).unwrap_or(text))
 }
 
-// The reason why a text could not be read, as messages print it after the name of the file.
-#[derive(Drop)]
-enum ReadError {
-    // The file or standard input could not be read.
-    Failed(io::Error),
-    // The bytes at this line and column are not UTF-8.
-    NotUtf8(usize, usize),
-}
-
-impl fmt::Display for ReadError {
-    fn fmt<W: fmt::Write>(&self, f: &mut fmt::Formatter<W>) -> fmt::Result {
-        match self {
-            ReadError::Failed(error) => write!(f, ": {error}"),
-            ReadError::NotUtf8(line, column) => write!(f, ":{line}:{column}: not UTF-8"),
-        }
-    }
-}
-
-// Reads the text of a file, or of standard input for `-`.
-fn text_of(rt: &HostRuntime, name: &str) -> Result<String, ReadError> {
-    let mut bytes = Vec::new(rt.alloc());
-    let outcome = if name == "-" {
-        rt.stdin().read_to_end(&mut bytes).map(|_count| ())
-    } else {
-        fs::read(rt, name).map(|read| bytes = read)
-    };
-    if let Err(error) = outcome {
-        return Err(ReadError::Failed(error));
-    }
-    match String::from_utf8(bytes) {
-        Ok(text) => Ok(text),
-        Err(error) => {
-            let valid = error.utf8_error().valid_up_to();
-            let (line, column) = match std::str::from_utf8(
-                error.as_bytes().get(..valid).unwrap_or(b""),
-            ) {
-                Ok(text) => end_location(text),
-                Err(_) => (1, 1),
-            };
-            Err(ReadError::NotUtf8(line, column))
-        }
-    }
-}
-
-/// Reads the text of a file, or of standard input for `-`. Returns None if it cannot be read or is not UTF-8, which is reported.
-pub fn read_text(rt: &HostRuntime, program: &Program, name: &str) -> io::Result<Option<String>> {
-    match text_of(rt, name) {
-        Ok(text) => Ok(Some(text)),
-        Err(unread) => {
-            eprintln!(rt; "{}: {}{unread}", program.name, display_name(name))?;
-            Ok(None)
-        }
-    }
-}
-
 impl Inputs {
-    // Returns whether reading one of the files may wait: it is standard input, or not a regular file. Returns false if this is unknown; reading then fails.
-    fn may_block(&self, rt: &HostRuntime, name: &str) -> bool {
+    /// Returns whether reading one of the files may wait: it is standard input, or not a regular file. Returns false if this is unknown; reading then fails.
+    pub(crate) fn may_block(&self, rt: &HostRuntime, name: &str) -> bool {
         if name == "-" || self.are_regular {
             return name == "-";
         }
         match fs::metadata(rt, name) {
             Ok(data) => !data.is_file(),
             Err(_) => false,
-        }
-    }
-
-    /// Reads the text of one of the files as [`read_text`] does. Flushes `out` before it reads standard input or anything but a regular file, and before a
-    /// message. The message is written even if the flush fails.
-    pub fn read_text<W: Write>(
-        &self,
-        rt: &HostRuntime,
-        program: &Program,
-        name: &str,
-        out: &mut W,
-    ) -> io::Result<Option<String>>
-        ensures { Keeps (W.contents out.old) (W.contents out.new) }
-    {
-        if self.may_block(rt, name) {
-            out.flush()?;
-        }
-        match text_of(rt, name) {
-            Ok(text) => Ok(Some(text)),
-            Err(unread) => {
-                let flushed = out.flush();
-                eprintln!(rt; "{}: {}{unread}", program.name, display_name(name))?;
-                flushed?;
-                Ok(None)
-            }
         }
     }
 }

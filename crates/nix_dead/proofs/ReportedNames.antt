@@ -1,11 +1,11 @@
 -- What a report says.
-use Rattle.std.proofs.Common.{◌≡◌, ℕ, ◌+◌, ◌<◌, Bool, List, [], ◌∷◌, ◌++◌, length, map, take, get_or, Option, refl, ap, sym, ◌∙◌, arith, subst, inl, inr}
+use Rattle.std.proofs.Common.{◌≡◌, ℕ, ◌+◌, ◌<◌, Bool, List, [], ◌∷◌, ◌++◌, length, map, take, get_or, Option, Some, refl, ap, sym, ◌∙◌, arith, subst, inl, inr}
 use Rattle.std.proofs.{KnownBytes.{Appends-nil, Appends-kept, Appends-trans, Keeps-trans}, lemmas.List.{length-map, take_more, flat_map_more, Sorted.length_permutation}}
 use Rattle.std.specs.{List.{flat_map, Sorted.{IsNonDecreasingBy, IsPermutation}}, Io.KnownBytes.{Appends, Keeps}}
 use Rattle.rnix_kinds.specs.Lexical.Tokens.{tokens_of}
 use Rattle.rnix_green.specs.Tree.{Tree, Located}
 use Rattle.rnix_grammar.specs.{declared.error.ParseError.ParseError, Fault.{Fault, fault_of}, Parsed.IsParsed}
-use Rattle.nix_cli.specs.MessageLocations.{display_name}
+use Rattle.nix_cli.specs.{KnownTexts.{KnownTexts, Agrees}, MessageLocations.{display_name}}
 use Rattle.nix_dead.specs.{Dead.{Listed, listed_name, dead_in}, declared.dead.Name.Name}
 use Rattle.nix_dead.specs.Report.{name_output, status_of, AreReported, IsReported, IsFileReported}
 
@@ -63,10 +63,12 @@ kept_appended : (old mid new : Option (List ℕ)) (bytes : List ℕ) → Keeps o
 kept_appended old mid new bytes kept written = Appends-trans old mid new [] bytes (Appends-kept old old mid [] (Appends-nil old) kept) written
 
 -- a file is reported, after calls that change no output
-pub file_reported : (is_json : Bool) (file text : List ℕ) (old mid new : Option (List ℕ)) (status : ℕ) → Keeps old mid →
-    IsReported is_json (display_name file) text mid new status → IsFileReported is_json file old new status
-file_reported is_json file text old mid new status kept reported = inr (
+pub file_reported : (is_json : Bool) (texts : KnownTexts) (file text : List ℕ) (old mid new : Option (List ℕ)) (status : ℕ) →
+    Agrees (texts file) (Some text) → Keeps old mid → IsReported is_json (display_name file) text mid new status →
+    IsFileReported is_json texts file old new status
+file_reported is_json texts file text old mid new status known kept reported = inr (
   text,
+  known,
   record {
     tree = reported.tree;
     faults = reported.faults;

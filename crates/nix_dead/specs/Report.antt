@@ -1,5 +1,5 @@
 -- The report on texts: a line for each name that is never used, and the exit status. A text is the list of its bytes.
-use Rattle.std.specs.Prelude.{◌≡◌, ◌⊎◌, ℕ, Bool, List, [], ◌∷◌, ◌++◌, codes, decimal, map, Option, if◌then◌else◌}
+use Rattle.std.specs.Prelude.{◌≡◌, ◌⊎◌, ℕ, Bool, List, [], ◌∷◌, ◌++◌, codes, decimal, map, Option, Some, None, if◌then◌else◌}
 use Rattle.std.specs.List.{flat_map, Sorted.{IsNonDecreasingBy, IsPermutation}}
 use Rattle.std.specs.Cow.{cow_str_bytes}
 use Rattle.std.specs.Io.KnownBytes.{Appends, Keeps}
@@ -8,6 +8,7 @@ use Rattle.rnix_green.specs.Tree.{Tree, Located}
 use Rattle.rnix_grammar.specs.Fault.{Fault}
 use Rattle.rnix_grammar.specs.Parsed.{IsParsed}
 use Rattle.nix_cli.specs.JsonString.{json_string, shown_text}
+use Rattle.nix_cli.specs.KnownTexts.{KnownTexts, Agrees}
 use Rattle.nix_cli.specs.MessageLocations.{display_name, line_and_column, location_text}
 use Rattle.nix_dead.specs.Dead.{Listed, listed_name, dead_in}
 use Rattle.nix_dead.specs.declared.dead.Name.{Name}
@@ -52,7 +53,8 @@ pub record IsReported (is_json : Bool) (file text : List ℕ) (old new : Option 
   pub faulty : ¬ (faults ≡ []) → (status ≡ 2) × Keeps old new
   pub faultless : faults ≡ [] → AreReported is_json file text record { tree = tree; number = 0 } old new status
 
--- a file is reported: nothing is written for a file that is not read, and its status is 2; otherwise it has a text, which is reported
-abbrev pub IsFileReported : Bool → List ℕ → Option (List ℕ) → Option (List ℕ) → ℕ → Type 0
-IsFileReported is_json file old new status =
-    (Keeps old new × (status ≡ 2)) ⊎ ((text : List ℕ) × IsReported is_json (display_name file) text old new status)
+-- a file is reported: nothing is written for a file that cannot be read, and its status is 2; otherwise its text is reported
+abbrev pub IsFileReported : Bool → KnownTexts → List ℕ → Option (List ℕ) → Option (List ℕ) → ℕ → Type 0
+IsFileReported is_json texts file old new status =
+    (Agrees (texts file) None × Keeps old new × (status ≡ 2))
+    ⊎ ((text : List ℕ) × Agrees (texts file) (Some text) × IsReported is_json (display_name file) text old new status)

@@ -34,7 +34,13 @@ Ends with 0 if all names are used, 1 if some are not, 2 if a file has a syntax e
 fn report_named(rt: &HostRuntime, arguments: &Arguments) -> io::Result<u8> {
     let mut out = BufWriter::new(rt.alloc(), rt.stdout())?;
     let inputs = find_inputs(rt, &PROGRAM, &arguments.words)?;
-    let status = report_files(rt, &inputs, arguments.has("--json"), &mut out)?;
+    let status = report_files(
+        rt,
+        &inputs,
+        &inputs.files,
+        arguments.has("--json"),
+        &mut out,
+    )?;
     out.flush()?;
     Ok(status)
 }

@@ -10,7 +10,7 @@ ghost use Rattle.nix_dead.specs.Report.{name_line, name_object, name_output, Are
 use crate::PROGRAM;
 use crate::dead::{Name, dead_names};
 use nix_cli::{
-    FAILED, FOUND, Inputs, Source, display_name, location_of, refuse_after_output,
+    FAILED, FOUND, Files, Source, TextReader, display_name, location_of, refuse_after_output,
     write_json_string, write_shown, write_source_location,
 };
 use rnix::{Parse, Root, SyntaxNode};
@@ -140,35 +140,36 @@ fn report<W: Write>(
 }
 
 // Writes the unused names of a file, and returns the exit status. A file that cannot be read is reported.
-fn report_file<W: Write>(
+fn report_file<R: TextReader, W: Write>(
     rt: &HostRuntime,
-    inputs: &Inputs,
+    reader: &R,
     file: &str,
     is_json: bool,
     out: &mut W,
 ) -> io::Result<u8>
-    ensures { IfOk result (IsFileReported is_json file.now (W.contents out.old) (W.contents out.new)) }
+    ensures { IfOk result (IsFileReported is_json (R.texts reader.now) file.now (W.contents out.old) (W.contents out.new)) }
 {
-    match inputs.read_text(rt, &PROGRAM, file, out)? {
+    match reader.read_text(rt, &PROGRAM, file, out)? {
         Some(text) => report(rt, display_name(file), text.as_str(), is_json, out),
         None => Ok(FAILED),
     }
 }
 
 /// Writes the unused names of the files, and returns the highest exit status.
-pub fn report_files<W: Write>(
+pub fn report_files<R: TextReader, W: Write>(
     rt: &HostRuntime,
-    inputs: &Inputs,
+    reader: &R,
+    files: &Files,
     is_json: bool,
     out: &mut W,
 ) -> io::Result<u8>
-    ensures { IfOk result (λ status. AreProcessed (IsFileReported is_json) (first_status inputs.now.files.failed) (W.contents out.old)
-        (map string_bytes inputs.now.files.names.items) (W.contents out.new) status) }
+    ensures { IfOk result (λ status. AreProcessed (IsFileReported is_json (R.texts reader.now)) (first_status files.now.failed)
+        (W.contents out.old) (map string_bytes files.now.names.items) (W.contents out.new) status) }
 {
-    let mut status = inputs.files.status();
-    for number in 0..inputs.files.names.len() {
-        let file = inputs.files.names[number].as_str();
-        let own = report_file(rt, inputs, file, is_json, out)?;
+    let mut status = files.status();
+    for number in 0..files.names.len() {
+        let file = files.names[number].as_str();
+        let own = report_file(rt, reader, file, is_json, out)?;
         status = status.max(own);
     }
     Ok(status)

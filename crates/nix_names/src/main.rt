@@ -5,8 +5,8 @@ mod lines;
 
 use lines::write_names;
 use nix_cli::{
-    Arguments, FAILED, Program, Start, display_name, end, find_inputs, location_of, read_arguments,
-    refuse_after_output,
+    Arguments, FAILED, Program, Start, TextReader, display_name, end, find_inputs, location_of,
+    read_arguments, refuse_after_output,
 };
 use nix_scopes::resolve;
 use rnix::{Parse, Root};

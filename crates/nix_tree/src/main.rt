@@ -5,8 +5,8 @@ mod json;
 
 use json::write_json;
 use nix_cli::{
-    Arguments, FAILED, Inputs, Program, Start, display_name, end, file_status, find_inputs,
-    read_arguments,
+    Arguments, FAILED, Inputs, Program, Start, TextReader, display_name, end, file_status,
+    find_inputs, read_arguments,
 };
 use rnix_print::print_text;
 use std::io::{self, BufWriter, Write};

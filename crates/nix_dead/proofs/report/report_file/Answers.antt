@@ -1,4 +1,4 @@
-use Rattle.std.proofs.{Common.{ℕ, List, subst, string_bytes}, lemmas.Result.IfOk-weaker}
+use Rattle.std.proofs.{Common.{ℕ, List, subst, string_bytes, rules}, lemmas.Result.IfOk-weaker}
 use Rattle.nix_cli.specs.MessageLocations.{display_name}
 use Rattle.nix_dead.specs.Report.{IsReported, IsFileReported}
 use Rattle.nix_dead.proofs.ReportedNames.{file_reported}
@@ -11,7 +11,8 @@ returns-in-Some g c =
     let new = g.W.Write.contents c.report.new.out in
     let text = c.as_str.result.now in
     IfOk-weaker c.report.result (IsReported c.args.is_json c.display_name.result.now text mid new)
-    (IsFileReported c.args.is_json c.args.file.now start new)
-    (λ status own. file_reported c.args.is_json c.args.file.now text start mid new status c.read_text.ensures
+    (IsFileReported c.args.is_json (g.R.TextReader.texts c.args.reader.now) c.args.file.now start new)
+    (λ status own. file_reported c.args.is_json (g.R.TextReader.texts c.args.reader.now) c.args.file.now text start mid new status (search rules)
+    c.read_text.ensures.kept
     (subst (λ (file : List ℕ). IsReported c.args.is_json file text mid new status) c.display_name.ensures own))
     c.report.ensures
