@@ -12,7 +12,7 @@ use Rattle.nix_check.specs.declared.style.Format.TheVariants as form
 use Rattle.nix_check.specs.FoundDiagnostics.{AreFound}
 use Rattle.nix_check.specs.{AsText.IsText, AsJson.json_line, AsSarif.{sarif_result, separator}}
 use Rattle.nix_check.specs.Listed.{Prints, none_listed}
-use Rattle.nix_check.specs.Printed.{IsPrintedAs, IsPrinted, AreFormed, ArePrinted, IsChecked, more_line}
+use Rattle.nix_check.specs.PrintedFindings.{IsPrintedAs, IsPrinted, AreFormed, ArePrinted, IsChecked, more_line}
 use Rattle.nix_check.proofs.CountedDiagnostics.{found_counted}
 
 -- printing a diagnostic in the form of the style

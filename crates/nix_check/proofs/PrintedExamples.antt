@@ -3,7 +3,7 @@ use Rattle.std.proofs.Common.{◌≡◌, [], ◌∷◌, refl}
 use Rattle.std.specs.Prelude.{codes, true, false}
 use Rattle.nix_diagnostics.specs.declared.code.Code.TheVariants.{RepeatedAttribute, ForeignSpace}
 use Rattle.nix_diagnostics.specs.declared.code.Severity.TheVariants.{Warning}
-use Rattle.nix_check.specs.{Listed.comma_joined, AsText.{message_text, severity_text}, AsSarif.{uri, sarif_tail, rule_members}, Printed.more_line, ErrorReport.{count_line, status_of}}
+use Rattle.nix_check.specs.{Listed.comma_joined, AsText.{message_text, severity_text}, AsSarif.{uri, sarif_tail, rule_members}, PrintedFindings.more_line, Tallies.status_of, ErrorReport.count_line, Fixing.{fixes_line, remaining_line}}
 
 -- a message without colors
 plain_message : message_text false (codes "31") (codes "error:") (codes "expected a value") ≡ codes "error: expected a value\n"
@@ -54,3 +54,19 @@ unread_status = refl
 
 both_status : status_of record { errors = 2; unread = 1 } ≡ 2
 both_status = refl
+
+-- the lines about the fixes of files
+one_fix : fixes_line (codes "a.nix") 1 ≡ codes "a.nix: 1 fix\n"
+one_fix = refl
+
+no_fix : fixes_line (codes "a.nix") 0 ≡ []
+no_fix = refl
+
+none_left : remaining_line record { errors = 0; unread = 0 } ≡ codes "no errors are left\n"
+none_left = refl
+
+some_unread : remaining_line record { errors = 0; unread = 1 } ≡ []
+some_unread = refl
+
+one_left : remaining_line record { errors = 1; unread = 1 } ≡ codes "1 error is left\n"
+one_left = refl

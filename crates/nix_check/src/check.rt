@@ -7,7 +7,7 @@ ghost use Rattle.nix_diagnostics.specs.declared.diagnostic.Diagnostic.{Diagnosti
 ghost use Rattle.nix_cli.specs.MessageLocations.{IsIndexed};
 ghost use Rattle.nix_check.specs.FoundDiagnostics.{AreFirstErrors, AreFirstFound};
 ghost use Rattle.nix_check.specs.Listed.{Prints};
-ghost use Rattle.nix_check.specs.Printed.{more_line, IsPrinted, AreFormed, ArePrinted, IsChecked};
+ghost use Rattle.nix_check.specs.PrintedFindings.{more_line, IsPrinted, AreFormed, ArePrinted, IsChecked};
 
 use crate::json::write_json;
 use crate::lints::lint_diagnostics;

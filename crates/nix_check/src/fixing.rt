@@ -1,21 +1,27 @@
 //! Fixing files.
 
+ghost use Rattle.std.specs.Prelude.{◌≡◌, ℕ, List, false, codes, map, string_bytes, IfOk, OnOk, IsFalse};
+ghost use Rattle.std.specs.{Str.bytes_eq, Io.KnownBytes.Appends};
+ghost use Rattle.nix_fixes.specs.AllFixes.{IsFixedUpTo};
+ghost use Rattle.nix_check.specs.Tallies.{AreTallied};
+ghost use Rattle.nix_check.specs.Fixing.{fixes_line, remaining_line, IsTextFixed, IsFileFixed, AreFixed};
+
+use crate::PROGRAM;
 use crate::check::check_text;
 use crate::style::Style;
-use nix_cli::{FAILED, FOUND, Files, Program, display_name, read_text, replace_text};
+use crate::tally::Tally;
+use nix_cli::{Files, TextReader, display_name, replace_text};
 use nix_fixes::{FixedText, fixed};
+use std::alloc::Global;
 use std::io::{self, Write};
 
 // The greatest number of diagnostics of a file for which fixes are tried. Each attempt takes about as long as checking the file.
 const MAX_TRIED: usize = 1000;
 
 // Writes a fixed text: to its file if it has fixes, or to standard output if it was read from standard input. Reports what fails.
-fn write_fixed(
-    rt: &HostRuntime,
-    program: &Program,
-    name: &str,
-    made: &FixedText,
-) -> io::Result<bool> {
+fn write_fixed(rt: &HostRuntime, name: &str, made: &FixedText) -> io::Result<bool>
+    ensures { IfOk result (λ is_written. IsFalse is_written → (bytes_eq name.now (codes "-") ≡ false) × ¬ (made.now.fixes ≡ 0)) }
+{
     if name == "-" {
         rt.stdout().write_all(made.text.as_bytes())?;
         return Ok(true);
@@ -26,14 +32,16 @@ fn write_fixed(
     match replace_text(rt, name, made.text.as_str()) {
         Ok(()) => Ok(true),
         Err(error) => {
-            eprintln!(rt; "{}: {name}: {error}", program.name)?;
+            eprintln!(rt; "{}: {name}: {error}", PROGRAM.name)?;
             Ok(false)
         }
     }
 }
 
 // Writes the number of fixes of a text, if it has some.
-fn write_fixes<W: Write>(name: &str, fixes: usize, out: &mut W) -> io::Result<()> {
+fn write_fixes<W: Write>(name: &str, fixes: usize, out: &mut W) -> io::Result<()>
+    ensures { OnOk result (Appends (W.contents out.old) (W.contents out.new) (fixes_line name.now fixes)) }
+{
     match fixes {
         0 => Ok(()),
         1 => writeln!(out, "{name}: 1 fix"),
@@ -41,59 +49,99 @@ fn write_fixes<W: Write>(name: &str, fixes: usize, out: &mut W) -> io::Result<()
     }
 }
 
-// Fixes a file, or for `-` prints the fixed text of standard input. Writes the number of fixes and the remaining errors, and returns the number of these
-// errors, or `None` if something could not be read or written.
-fn fix_file<W: Write>(
-    rt: &HostRuntime,
-    program: &Program,
+// Writes the number of fixes of a text and the remaining errors, and returns the number of these.
+fn write_result<W: Write>(
+    alloc: Global,
     name: &str,
+    made: &FixedText,
     style: Style,
     out: &mut W,
-) -> io::Result<Option<usize>> {
-    let Some(text) = read_text(rt, program, name)? else {
-        return Ok(None);
+) -> io::Result<usize>
+    ensures { IfOk result (λ remaining. (text : List ℕ) → IsFixedUpTo MAX_TRIED text made.now.fixes (string_bytes made.now.text) made.now.errors →
+        IsTextFixed style name.now text (W.contents out.old) (W.contents out.new) remaining) }
+{
+    write_fixes(name, made.fixes, out)?;
+    let remaining = check_text(alloc, name, made.text.as_str(), style, 0, out)?;
+    out.flush()?;
+    Ok(remaining)
+}
+
+// Fixes a file, or for `-` prints the fixed text of standard input. Writes the number of fixes and the remaining errors, and returns the counts with these,
+// or with the file if it could not be read or written.
+fn fix_file<R: TextReader, W: Write>(
+    rt: &HostRuntime,
+    reader: &R,
+    name: &str,
+    style: Style,
+    tally: Tally,
+    out: &mut W,
+) -> io::Result<Tally>
+    ensures { IfOk result (IsFileFixed style (R.texts reader.now) name.now tally (W.contents out.old) (W.contents out.new)) }
+{
+    let Some(text) = reader.read_text(rt, &PROGRAM, name, out)? else {
+        return Ok(tally.with_unread());
     };
     let made = fixed(rt.alloc(), text.as_str(), MAX_TRIED)?;
-    if !write_fixed(rt, program, name, &made)? {
-        return Ok(None);
+    if !write_fixed(rt, name, &made)? {
+        return Ok(tally.with_unread());
     }
-    let shown = display_name(name);
-    write_fixes(shown, made.fixes, out)?;
-    let remaining = check_text(rt.alloc(), shown, made.text.as_str(), style, 0, out)?;
-    out.flush()?;
-    Ok(Some(remaining))
+    let remaining = write_result(rt.alloc(), display_name(name), &made, style, out)?;
+    Ok(tally.with_errors(remaining))
+}
+
+// Fixes the files in order.
+fn fix_each<R: TextReader, W: Write>(
+    rt: &HostRuntime,
+    reader: &R,
+    files: &Files,
+    style: Style,
+    out: &mut W,
+) -> io::Result<Tally>
+    ensures { IfOk result (AreTallied (IsFileFixed style (R.texts reader.now)) files.now.failed (W.contents out.old)
+        (map string_bytes files.now.names.items) (W.contents out.new)) }
+{
+    let mut tally = Tally {
+        errors: 0,
+        unread: files.failed,
+    };
+    for number in 0..files.names.len() {
+        let name = files.names[number].as_str();
+        tally = fix_file(rt, reader, name, style, tally, out)?;
+    }
+    Ok(tally)
 }
 
 // Writes the last line, the number of remaining errors. There is no such line if no errors remain but some files could not be read or written.
-fn write_remaining<W: Write>(errors: usize, failed: usize, out: &mut W) -> io::Result<()> {
-    match (errors, failed) {
-        (0, 0) => writeln!(out, "no errors are left"),
-        (0, _) => Ok(()),
-        (1, _) => writeln!(out, "1 error is left"),
-        (count, _) => writeln!(out, "{count} errors are left"),
+fn write_remaining<W: Write>(tally: Tally, out: &mut W) -> io::Result<()>
+    ensures { OnOk result (Appends (W.contents out.old) (W.contents out.new) (remaining_line tally)) }
+{
+    let Tally { errors, unread } = tally;
+    if errors == 0 {
+        out.write_all(if unread == 0 {
+            b"no errors are left\n"
+        } else {
+            b""
+        })
+    } else if errors == 1 {
+        out.write_all(b"1 error is left\n")
+    } else {
+        writeln!(out, "{errors} errors are left")
     }
 }
 
 /// Fixes files, writes the numbers of fixes and the remaining errors, and returns the exit status.
-pub fn fix_files<W: Write>(
+pub fn fix_files<R: TextReader, W: Write>(
     rt: &HostRuntime,
-    program: &Program,
+    reader: &R,
     files: &Files,
     style: Style,
     out: &mut W,
-) -> io::Result<u8> {
-    let (mut errors, mut failed) = (0usize, files.failed);
-    for name in &files.names {
-        match fix_file(rt, program, name.as_str(), style, out)? {
-            Some(remaining) => errors = errors.saturating_add(remaining),
-            None => failed = failed.saturating_add(1),
-        }
-    }
-    write_remaining(errors, failed, out)?;
+) -> io::Result<u8>
+    ensures { IfOk result (AreFixed style (R.texts reader.now) files.now.failed (map string_bytes files.now.names.items)
+        (W.contents out.old) (W.contents out.new)) }
+{
+    let tally = fix_each(rt, reader, files, style, out)?;
+    write_remaining(tally, out)?;
     out.flush()?;
-    Ok(match (errors, failed) {
-        (0, 0) => 0,
-        (_, 0) => FOUND,
-        _ => FAILED,
-    })
+    Ok(tally.status())
 }

@@ -9,6 +9,7 @@ mod lints;
 mod report;
 mod sarif;
 mod style;
+mod tally;
 mod text;
 
 use fixing::fix_files;
@@ -83,7 +84,7 @@ fn check_all(rt: &HostRuntime, arguments: &Arguments, format: Format) -> io::Res
     let mut out = BufWriter::new(rt.alloc(), rt.stdout())?;
     // Before anything is written, folders are read, and those that cannot be read are reported.
     let inputs = find_inputs(rt, &PROGRAM, &arguments.words)?;
-    let status = report_files(rt, &inputs, style, &mut out)?;
+    let status = report_files(rt, &inputs, &inputs.files, style, &mut out)?;
     out.flush()?;
     Ok(status)
 }
@@ -93,7 +94,7 @@ fn fix_all(rt: &HostRuntime, arguments: &Arguments) -> io::Result<u8> {
     let style = style_of(rt, arguments, Format::Text);
     let mut out = BufWriter::new(rt.alloc(), rt.stderr())?;
     let files = find_files(rt, &PROGRAM, &arguments.words)?;
-    fix_files(rt, &PROGRAM, &files, style, &mut out)
+    fix_files(rt, &files, &files, style, &mut out)
 }
 
 // Returns the reason why the options exclude each other, if they do.

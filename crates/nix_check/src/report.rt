@@ -2,57 +2,16 @@
 
 ghost use Rattle.std.specs.Prelude.{◌≡◌, map, string_bytes, IfOk, OnOk};
 ghost use Rattle.std.specs.Io.KnownBytes.{Appends};
-ghost use Rattle.nix_check.specs.ErrorReport.{with_errors, with_unread, count_line, report_head, report_tail, status_of, IsTextCounted, IsFileCounted, AreChecked, IsReport};
+ghost use Rattle.nix_check.specs.ErrorReport.{count_line, report_head, report_tail, IsTextCounted, IsFileCounted, AreChecked, IsReport};
 
 use crate::PROGRAM;
 use crate::check::check_text;
 use crate::sarif::{write_head, write_tail};
 use crate::style::{Format, Style};
-use nix_cli::{FAILED, FOUND, Inputs, Progress, display_name};
+use crate::tally::Tally;
+use nix_cli::{Files, Progress, TextReader, display_name};
 use std::alloc::Global;
 use std::io::{self, Write};
-
-// The counts over all files.
-#[derive(Clone, Copy)]
-struct Tally {
-    // Errors that were found.
-    errors: usize,
-    // Files and folders that could not be read.
-    unread: usize,
-}
-
-impl Tally {
-    // Returns the counts with more errors.
-    fn with_errors(self, count: usize) -> Tally
-        ensures { result ≡ with_errors self count }
-    {
-        Tally {
-            errors: self.errors.saturating_add(count),
-            unread: self.unread,
-        }
-    }
-
-    // Returns the counts with one more file that could not be read.
-    fn with_unread(self) -> Tally
-        ensures { result ≡ with_unread self }
-    {
-        Tally {
-            errors: self.errors,
-            unread: self.unread.saturating_add(1),
-        }
-    }
-
-    // Returns the exit status.
-    fn status(self) -> u8
-        ensures { result ≡ status_of self }
-    {
-        if self.unread == 0 {
-            if self.errors == 0 { 0 } else { FOUND }
-        } else {
-            FAILED
-        }
-    }
-}
 
 // Checks a text, and returns the counts with its errors.
 fn count_text<W: Write>(
@@ -70,17 +29,17 @@ fn count_text<W: Write>(
 }
 
 // Checks a file, and returns the counts with its errors, or with the file if it cannot be read.
-fn check_file<W: Write>(
+fn check_file<R: TextReader, W: Write>(
     rt: &HostRuntime,
-    inputs: &Inputs,
+    reader: &R,
     name: &str,
     style: Style,
     tally: Tally,
     out: &mut W,
 ) -> io::Result<Tally>
-    ensures { IfOk result (IsFileCounted style name.now tally (W.contents out.old) (W.contents out.new)) }
+    ensures { IfOk result (IsFileCounted style (R.texts reader.now) name.now tally (W.contents out.old) (W.contents out.new)) }
 {
-    match inputs.read_text(rt, &PROGRAM, name, out)? {
+    match reader.read_text(rt, &PROGRAM, name, out)? {
         Some(text) => count_text(
             rt.alloc(),
             display_name(name),
@@ -94,18 +53,18 @@ fn check_file<W: Write>(
 }
 
 // Checks a file as `check_file` does. If it has errors, clears the progress bar and flushes the output.
-fn check_next<W: Write>(
+fn check_next<R: TextReader, W: Write>(
     rt: &HostRuntime,
-    inputs: &Inputs,
+    reader: &R,
     progress: Progress,
     name: &str,
     style: Style,
     tally: Tally,
     out: &mut W,
 ) -> io::Result<Tally>
-    ensures { IfOk result (IsFileCounted style name.now tally (W.contents out.old) (W.contents out.new)) }
+    ensures { IfOk result (IsFileCounted style (R.texts reader.now) name.now tally (W.contents out.old) (W.contents out.new)) }
 {
-    let next = check_file(rt, inputs, name, style, tally, out)?;
+    let next = check_file(rt, reader, name, style, tally, out)?;
     if next.errors == tally.errors {
         return Ok(next);
     }
@@ -115,24 +74,25 @@ fn check_next<W: Write>(
 }
 
 // Checks the files in order.
-fn check_files<W: Write>(
+fn check_files<R: TextReader, W: Write>(
     rt: &HostRuntime,
-    inputs: &Inputs,
+    reader: &R,
+    files: &Files,
     style: Style,
     out: &mut W,
 ) -> io::Result<Tally>
-    ensures { IfOk result (AreChecked style inputs.now.files.failed (W.contents out.old) (map string_bytes inputs.now.files.names.items)
-        (W.contents out.new)) }
+    ensures { IfOk result (AreChecked style (R.texts reader.now) files.now.failed (W.contents out.old)
+        (map string_bytes files.now.names.items) (W.contents out.new)) }
 {
-    let progress = Progress::of(rt, inputs.files.names.len());
+    let progress = Progress::of(rt, files.names.len());
     let mut tally = Tally {
         errors: 0,
-        unread: inputs.files.failed,
+        unread: files.failed,
     };
-    for number in 0..inputs.files.names.len() {
+    for number in 0..files.names.len() {
         progress.show(rt, number)?;
-        let name = inputs.files.names[number].as_str();
-        tally = check_next(rt, inputs, progress, name, style, tally, out)?;
+        let name = files.names[number].as_str();
+        tally = check_next(rt, reader, progress, name, style, tally, out)?;
     }
     progress.clear(rt)?;
     Ok(tally)
@@ -174,17 +134,18 @@ fn write_end<W: Write>(format: Format, tally: Tally, out: &mut W) -> io::Result<
 }
 
 /// Writes the errors of the files, and returns the exit status.
-pub fn report_files<W: Write>(
+pub fn report_files<R: TextReader, W: Write>(
     rt: &HostRuntime,
-    inputs: &Inputs,
+    reader: &R,
+    files: &Files,
     style: Style,
     out: &mut W,
 ) -> io::Result<u8>
-    ensures { IfOk result (IsReport style inputs.now.files.failed (map string_bytes inputs.now.files.names.items)
+    ensures { IfOk result (IsReport style (R.texts reader.now) files.now.failed (map string_bytes files.now.names.items)
         (W.contents out.old) (W.contents out.new)) }
 {
     write_start(style.format, out)?;
-    let tally = check_files(rt, inputs, style, out)?;
+    let tally = check_files(rt, reader, files, style, out)?;
     write_end(style.format, tally, out)?;
     Ok(tally.status())
 }

@@ -84,16 +84,3 @@ pub record IsFirstFix (text : List ℕ) (errors : ℕ) (notes : List Note) (fix 
   pub are : notes ≡ before ++ note ∷ after
   pub none : HaveNoFix text errors before
   pub proposed : IsOfNote text note fix
-
--- a text becomes another one by one fix, after which it has fewer errors
-pub record IsFixedOnce (old new : List ℕ) : Type 0 where
-  pub errors : ℕ
-  pub is_read : IsReadWith old errors
-  pub fix : Fix
-  pub fixes : IsFix old errors fix
-  pub is : new ≡ text_with old fix
-
--- a text becomes another one by a number of fixes, one after another
-pub data IsFixed (text : List ℕ) : ℕ → List ℕ → Type 0 where
-  unchanged : IsFixed text 0 text
-  once_more : (count : ℕ) (old new : List ℕ) → IsFixed text count old → IsFixedOnce old new → IsFixed text (count + 1) new

@@ -1,3 +1,4 @@
 pub mod Fixes
+pub mod AllFixes
 pub mod Tries
 pub mod Rounds

@@ -1,4 +1,4 @@
-use Rattle.std.proofs.Common.{Bool, true, false, subst, sym, refl, arith}
+use Rattle.std.proofs.Common.{Bool, subst, sym, refl, arith}
 use Rattle.rnix.specs.ParseResult.{root_of}
 use Rattle.nix_check.{specs.FoundDiagnostics.AreErrors, proofs.CountedDiagnostics.{each_found, runs_found, first_take}}
 use Rattle.nix_check.proofs.check.find_errors.Goals as goal

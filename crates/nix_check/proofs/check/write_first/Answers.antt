@@ -1,6 +1,6 @@
-use Rattle.std.proofs.Common.{ℕ, ◌+◌, ◌==◌, Bool, List, take, arith, subst}
+use Rattle.std.proofs.Common.{ℕ, ◌+◌, ◌==◌, Bool, List, arith, subst}
 use Rattle.nix_diagnostics.specs.declared.diagnostic.Diagnostic.{Diagnostic}
-use Rattle.nix_check.{specs.{Listed.Prints, Printed.IsPrinted}, proofs.ListedPieces.{none_printed, one_printed}}
+use Rattle.nix_check.{specs.{Listed.Prints, PrintedFindings.IsPrinted}, proofs.ListedPieces.{none_printed, one_printed}}
 use Rattle.nix_check.proofs.check.write_first.Goals as goal
 
 pub loop-number-init : goal.loop-number-init

@@ -1,5 +1,5 @@
 use Rattle.std.proofs.Common.{take}
-use Rattle.nix_check.specs.{Listed.Prints, Printed.AreFormed}
+use Rattle.nix_check.specs.{Listed.Prints, PrintedFindings.AreFormed}
 use Rattle.nix_check.proofs.check.write_first.Given as goal
 
 -- the diagnostics so far are printed

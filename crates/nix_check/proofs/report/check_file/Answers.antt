@@ -1,4 +1,4 @@
-use Rattle.std.proofs.{Common.inl, lemmas.Result.IfOk-weaker}
+use Rattle.std.proofs.{Common.{inl, rules}, lemmas.Result.IfOk-weaker}
 use Rattle.nix_check.{specs.ErrorReport.{IsTextCounted, IsFileCounted}, proofs.CheckedFiles.file_checked}
 use Rattle.nix_check.proofs.report.check_file.Goals as goal
 
@@ -9,10 +9,12 @@ returns-in-Some g c =
     let new = g.W.Write.contents c.count_text.new.out in
     let shown = c.display_name.result.now in
     let text = c.as_str.result.now in
+    let texts = g.R.TextReader.texts c.args.reader.now in
     IfOk-weaker c.count_text.result (IsTextCounted c.args.style shown text c.args.tally mid new)
-    (IsFileCounted c.args.style c.args.name.now c.args.tally start new)
-    (λ tally own. file_checked c.args.style c.args.name.now shown text c.args.tally tally start mid new c.read_text.ensures c.display_name.ensures own)
+    (IsFileCounted c.args.style texts c.args.name.now c.args.tally start new)
+    (λ tally own. file_checked c.args.style texts c.args.name.now shown text c.args.tally tally start mid new (search rules) c.read_text.ensures.kept
+    c.display_name.ensures own)
     c.count_text.ensures
 
 pub returns-in-None : goal.returns-in-None
-returns-in-None g c = inl (c.read_text.ensures, c.with_unread.ensures)
+returns-in-None g c = inl (search rules, c.read_text.ensures.kept, c.with_unread.ensures)

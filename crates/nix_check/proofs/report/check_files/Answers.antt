@@ -1,16 +1,17 @@
 use Rattle.std.proofs.Common.{ℕ, List, subst, arith}
-use Rattle.nix_check.{specs.ErrorReport.{IsFileCounted, none_checked}, proofs.CheckedFiles.one_counted}
+use Rattle.nix_check.{specs.{ErrorReport.IsFileCounted, Tallies.none_tallied}, proofs.CheckedFiles.one_counted}
 use Rattle.nix_check.proofs.report.check_files.Goals as goal
 
 pub loop-number-init : goal.loop-number-init
-loop-number-init g c = none_checked
+loop-number-init g c = none_tallied
 
 pub loop-number-preserved : goal.loop-number-preserved
 loop-number-preserved g c =
+    let texts = g.R.TextReader.texts c.args.reader.now in
     let mid = g.W.Write.contents c.loop-number.out in
     let new = g.W.Write.contents c.check_next.new.out in
-    one_counted c.args.style c.args.inputs.now.files.failed (g.W.Write.contents c.args.out.now) mid new c.args.inputs.now.files.names.items
+    one_counted (IsFileCounted c.args.style texts) c.args.files.now.failed (g.W.Write.contents c.args.out.now) mid new c.args.files.now.names.items
     c.loop-number.number c.index.result.now c.loop-number.tally c.in_ok-tally.tally (omega (arith, c.loop-number-test.true)) c.index.ensures
     c.loop-number.invariant
-    (subst (λ (file : List ℕ). IsFileCounted c.args.style file c.loop-number.tally mid new c.in_ok-tally.tally) c.as_str-name.ensures.value
+    (subst (λ (file : List ℕ). IsFileCounted c.args.style texts file c.loop-number.tally mid new c.in_ok-tally.tally) c.as_str-name.ensures.value
     c.in_ok-tally.ensures)

@@ -5,5 +5,5 @@ use Rattle.nix_check.proofs.report.check_files.Given as goal
 -- the files so far are checked
 abbrev pub invariant-loop-number : goal.invariant-loop-number
 invariant-loop-number g l =
-    AreChecked l.style l.inputs.files.failed (g.W.Write.contents l.fn.out) (map string_bytes (take l.number l.inputs.files.names.items))
+    AreChecked l.style (g.R.TextReader.texts l.reader) l.files.failed (g.W.Write.contents l.fn.out) (map string_bytes (take l.number l.files.names.items))
     (g.W.Write.contents l.out) l.tally

@@ -1,4 +1,3 @@
-use Rattle.nix_check.specs.ErrorReport.{IsReport}
 use Rattle.nix_check.proofs.report.report_files.Goals as goal
 
 pub returns : goal.returns

@@ -1,9 +1,13 @@
-use Rattle.std.proofs.Common.{◌≤◌}
+use Rattle.std.proofs.Common.{◌≤◌, length}
 use Rattle.nix_fixes.specs.Rounds.{IsProgress}
 use Rattle.nix_fixes.proofs.all_fixes.fixed.Given as goal
 
-abbrev pub invariant-loop-round : goal.invariant-loop-round
-invariant-loop-round l = record {
+abbrev pub invariant-loop-progress : goal.invariant-loop-progress
+invariant-loop-progress l = record {
   progress : IsProgress l.text l.progress;
-  few : l.progress.fixes ≤ l._round;
+  counted : l.progress.fixes ≤ l.progress.tried;
+  within : l.progress.tried ≤ l.most;
 }
+
+abbrev pub decreases-loop-progress : goal.decreases-loop-progress
+decreases-loop-progress l = length l.progress.read.faults

@@ -9,4 +9,4 @@ returns-clause-progress c =
     let text = c.args.text.now in
     let made : string_bytes c.in_ok-made.made ≡ text = search rules in
     let is_read : IsParsed (tokens_of text) c.in_ok-read.read.tree c.in_ok-read.read.faults = search rules in
-    begun text record { made = c.in_ok-made.made; read = c.in_ok-read.read; fixes = 0 } made is_read refl
+    begun text record { made = c.in_ok-made.made; read = c.in_ok-read.read; fixes = 0; tried = 0 } made is_read refl refl
