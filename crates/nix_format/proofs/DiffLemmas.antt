@@ -5,14 +5,10 @@ use Rattle.std.proofs.lemmas.{List.Concat.{flat_map-append}, Str.Pattern.{NoChar
 use Rattle.std.specs.{Prelude.{if◌then◌else◌, ◌≢◌, MatchOption}, List.{flat_map}, Str.{NoCharPasses}, Str.Pattern.{FindsChar, HasCharAt, EndsAtFirstMatch}}
 use denote.Ref.{Bor}
 use Rattle.nix_format.specs.declared.diff.{DiffLine.{DiffLine, TheVariants.{Common, Removed, Added}}, Line.{Line}}
-use Rattle.nix_format.specs.Diff.{line_feed, lines_with, lines_of, old_line, new_line, old_lines, new_lines, texts_of}
-
--- a text has no line feed
-abbrev HasNoFeed : List ℕ → Type 0
-HasNoFeed bs = (i : ℕ) → i < length bs → get_or bs i 0 ≢ line_feed
+use Rattle.nix_format.specs.Diff.{line_feed, HasNoLineFeed, lines_with, lines_of, old_line, new_line, old_lines, new_lines, texts_of}
 
 -- nor does the text after its first byte
-rest_has_none : (b : ℕ) (bs : List ℕ) → HasNoFeed (b ∷ bs) → HasNoFeed bs
+rest_has_none : (b : ℕ) (bs : List ℕ) → HasNoLineFeed (b ∷ bs) → HasNoLineFeed bs
 rest_has_none b bs none i less = none (suc i) (omega (arith, less))
 
 -- a byte other than a line feed continues the first line
@@ -21,7 +17,7 @@ begins_line b line lines other =
     ap (λ t. if t then (b ∷ []) ∷ line ∷ lines else (b ∷ line) ∷ lines) (ne_eqb b line_feed other)
 
 -- a text without line feeds is one line
-one_line : (b : ℕ) (bs : List ℕ) → HasNoFeed (b ∷ bs) → lines_of (b ∷ bs) ≡ (b ∷ bs) ∷ []
+one_line : (b : ℕ) (bs : List ℕ) → HasNoLineFeed (b ∷ bs) → lines_of (b ∷ bs) ≡ (b ∷ bs) ∷ []
 one_line b [] none = refl
 one_line b (c ∷ bs) none =
     ap (lines_with b) (one_line c bs (rest_has_none b (c ∷ bs) none)) ∙ begins_line b (c ∷ bs) [] (none 0 (omega arith))
@@ -31,20 +27,20 @@ feed_ends : (lines : List (List ℕ)) → lines_with line_feed lines ≡ (line_f
 feed_ends [] = refl
 feed_ends (line ∷ lines) = refl
 
-first_line : (front rest : List ℕ) → HasNoFeed front → lines_of (front ++ line_feed ∷ rest) ≡ (front ++ line_feed ∷ []) ∷ lines_of rest
+first_line : (front rest : List ℕ) → HasNoLineFeed front → lines_of (front ++ line_feed ∷ rest) ≡ (front ++ line_feed ∷ []) ∷ lines_of rest
 first_line [] rest none = feed_ends (lines_of rest)
 first_line (b ∷ bs) rest none =
     ap (lines_with b) (first_line bs rest (rest_has_none b bs none)) ∙ begins_line b (bs ++ line_feed ∷ []) (lines_of rest) (none 0 (omega arith))
 
 -- a line that is the whole text
-whole_line : (text rest : List ℕ) → text ≡ text ++ rest → 0 < length text → HasNoFeed text → lines_of text ≡ text ∷ lines_of rest
+whole_line : (text rest : List ℕ) → text ≡ text ++ rest → 0 < length text → HasNoLineFeed text → lines_of text ≡ text ∷ lines_of rest
 whole_line [] rest cut some none = absurd (omega (arith, some))
 whole_line (b ∷ bs) [] cut some none = one_line b bs none
 whole_line (b ∷ bs) (c ∷ rest) cut some none = absurd (omega (arith, ap length cut, length-append (b ∷ bs) (c ∷ rest)))
 
 -- a line up to the first line feed
 line_to_feed : (text line rest : List ℕ) (i j : ℕ) → text ≡ line ++ rest → HasCharAt line_feed text i j → line ≡ take j text
-    → HasNoFeed (take i text) → lines_of text ≡ line ∷ lines_of rest
+    → HasNoLineFeed (take i text) → lines_of text ≡ line ∷ lines_of rest
 line_to_feed text line rest i j cut found is none =
     let next : j ≡ i + 1 = omega (arith, found.ends) in
     let behind : drop i text ≡ line_feed ∷ drop j text = drop_at_char line_feed text i j found (omega arith) in

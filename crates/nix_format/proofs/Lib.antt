@@ -6,3 +6,4 @@ pub mod PatchedLines
 pub mod FormattedFiles
 pub mod OutcomeExamples
 pub mod FinishedTexts
+pub mod HeaderLines

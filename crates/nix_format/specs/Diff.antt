@@ -1,5 +1,5 @@
 -- The difference of two texts, line by line.
-use Rattle.std.specs.Prelude.{◌≡◌, ◌==◌, ℕ, List, [], ◌∷◌, ◌++◌, map, drop, if◌then◌else◌}
+use Rattle.std.specs.Prelude.{◌≡◌, ◌≢◌, ◌<◌, ◌==◌, ℕ, List, [], ◌∷◌, ◌++◌, length, get_or, map, drop, if◌then◌else◌}
 use Rattle.std.specs.List.{flat_map}
 use Rattle.nix_format.specs.declared.diff.DiffLine.{DiffLine}
 use Rattle.nix_format.specs.declared.diff.DiffLine.TheVariants.{Common, Removed, Added}
@@ -13,6 +13,10 @@ line_feed = 10
 abbrev pub lines_with : ℕ → List (List ℕ) → List (List ℕ)
 lines_with b [] = (b ∷ []) ∷ []
 lines_with b (line ∷ lines) = if b == line_feed then (b ∷ []) ∷ line ∷ lines else (b ∷ line) ∷ lines
+
+-- a text has no line feed
+abbrev pub HasNoLineFeed : List ℕ → Type 0
+HasNoLineFeed bs = (i : ℕ) → i < length bs → get_or bs i 0 ≢ line_feed
 
 -- the lines of a text, each with the line feed that ends it
 abbrev pub lines_of : List ℕ → List (List ℕ)

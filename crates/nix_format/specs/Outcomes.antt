@@ -1,6 +1,7 @@
 -- The results for files: what is printed for each, its outcome, the counts over all files, and the exit status. A text is the list of its bytes.
-use Rattle.std.specs.Prelude.{◌≡◌, ℕ, ◌+◌, ◌-◌, ◌^◌, ◌==◌, nat_lt, min, length, Bool, true, false, List, [], ◌∷◌, ◌++◌, codes, Option, if◌then◌else◌}
+use Rattle.std.specs.Prelude.{◌≡◌, ℕ, ◌+◌, ◌-◌, ◌^◌, ◌==◌, nat_lt, min, length, Bool, true, false, List, [], ◌∷◌, ◌++◌, codes, Option, Some, None, if◌then◌else◌}
 use Rattle.std.specs.{Str.bytes_eq, Io.KnownBytes.{Appends, Keeps}}
+use Rattle.nix_cli.specs.KnownTexts.{KnownTexts, Agrees}
 use Rattle.nix_cli.specs.MessageLocations.{display_name}
 use Rattle.nix_formatting.specs.{Formatted.{IsWithErrors, IsWithoutErrors}, Reindented.IsReformatted}
 use Rattle.nix_format.specs.declared.file.Task.{Task}
@@ -72,11 +73,14 @@ pub data IsTextFormatted (task : Task) (name text : List ℕ) (old new : Option 
       IsTextFormatted task name text old new outcome
 
 -- the outcome for a file
-pub data IsFileFormatted (task : Task) (name : List ℕ) (old new : Option (List ℕ)) : Outcome → Type 0 where
-  -- it is not read, or could not be replaced
-  unread : Keeps old new → IsFileFormatted task name old new Failed
+pub data IsFileFormatted (task : Task) (texts : KnownTexts) (name : List ℕ) (old new : Option (List ℕ)) : Outcome → Type 0 where
+  -- it is to be written, and cannot be replaced
+  irreplaceable : writes task ≡ true → is_input name ≡ false → Keeps old new → IsFileFormatted task texts name old new Failed
+  -- it cannot be read
+  unread : Agrees (texts name) None → Keeps old new → IsFileFormatted task texts name old new Failed
   -- it has a text
-  read : (text : List ℕ) (outcome : Outcome) → IsTextFormatted task name text old new outcome → IsFileFormatted task name old new outcome
+  read : (text : List ℕ) (mid : Option (List ℕ)) (outcome : Outcome) → Agrees (texts name) (Some text) → Keeps old mid →
+      IsTextFormatted task name text mid new outcome → IsFileFormatted task texts name old new outcome
 
 -- a sum of 64 bits, which stops at the largest number
 abbrev pub plus : ℕ → ℕ → ℕ
@@ -93,11 +97,12 @@ abbrev pub heading : Bool → List ℕ → List ℕ
 heading has_headings name = if has_headings then codes "# " ++ display_name name ++ codes ":\n" else []
 
 -- files are formatted one after another. Before the first one, only the folders that could not be read are counted
-pub data AreFormatted (task : Task) (has_headings : Bool) (failed : ℕ) (old : Option (List ℕ)) : List (List ℕ) → Option (List ℕ) → Tally → Type 0 where
-  none_formatted : AreFormatted task has_headings failed old [] old record { changed = 0; same = 0; failed = failed }
+pub data AreFormatted (task : Task) (texts : KnownTexts) (has_headings : Bool) (failed : ℕ) (old : Option (List ℕ))
+    : List (List ℕ) → Option (List ℕ) → Tally → Type 0 where
+  none_formatted : AreFormatted task texts has_headings failed old [] old record { changed = 0; same = 0; failed = failed }
   one_formatted : (files : List (List ℕ)) (mid begun new : Option (List ℕ)) (tally : Tally) (outcome : Outcome) (file : List ℕ) →
-      AreFormatted task has_headings failed old files mid tally → Appends mid begun (heading has_headings file) →
-      IsFileFormatted task file begun new outcome → AreFormatted task has_headings failed old (files ++ file ∷ []) new (counted outcome tally)
+      AreFormatted task texts has_headings failed old files mid tally → Appends mid begun (heading has_headings file) →
+      IsFileFormatted task texts file begun new outcome → AreFormatted task texts has_headings failed old (files ++ file ∷ []) new (counted outcome tally)
 
 -- the exit status of a check without failures: 1 if files would change
 abbrev pub found_status : Tally → ℕ
@@ -122,7 +127,7 @@ has_headings Write files = false
 has_headings Print files = nat_lt 1 (length files)
 
 -- the report on some files
-pub record IsReport (task : Task) (failed : ℕ) (files : List (List ℕ)) (old new : Option (List ℕ)) (status : ℕ) : Type 0 where
+pub record IsReport (task : Task) (texts : KnownTexts) (failed : ℕ) (files : List (List ℕ)) (old new : Option (List ℕ)) (status : ℕ) : Type 0 where
   pub tally : Tally
-  pub formatted : AreFormatted task (has_headings task files) failed old files new tally
+  pub formatted : AreFormatted task texts (has_headings task files) failed old files new tally
   pub status_is : status ≡ status_of task tally

@@ -4,7 +4,7 @@ use Rattle.std.specs.{List.flat_map, Str.byte}
 use Rattle.nix_format.specs.declared.diff.DiffLine.{DiffLine}
 use Rattle.nix_format.specs.declared.diff.DiffLine.TheVariants.{Common, Removed, Added}
 use Rattle.nix_format.specs.declared.unified.Hunk.{Hunk}
-use Rattle.nix_format.specs.Diff.{line_feed, lines_of, IsDiff}
+use Rattle.nix_format.specs.Diff.{line_feed, HasNoLineFeed, lines_of, IsDiff}
 use Rattle.nix_format.specs.Hunks.{AreHunks, hunk_lines, patched_from}
 
 -- what follows a line that does not end with a line feed
@@ -38,13 +38,27 @@ header_text hunk =
 abbrev pub hunk_text : List DiffLine → Hunk → List ℕ
 hunk_text diff hunk = header_text hunk ++ flat_map line_text (hunk_lines diff hunk)
 
--- a text contains the hunks of a diff of two texts, after their names; applied where their headers say, they turn the lines of the old text into those of the
--- new one
+-- the two header lines, with the names of the texts
+pub record AreHeaderLines (text : List ℕ) : Type 0 where
+  pub old_name : List ℕ
+  pub new_name : List ℕ
+  pub old_is_line : HasNoLineFeed old_name
+  pub new_is_line : HasNoLineFeed new_name
+  pub are : text ≡ codes "--- " ++ (old_name ++ (codes "\n+++ " ++ (new_name ++ codes "\n")))
+
+-- what precedes some hunks: the two header lines, or nothing if there are no hunks
+abbrev pub AreHeaderLinesOf : List Hunk → List ℕ → Type 0
+AreHeaderLinesOf [] text = text ≡ []
+AreHeaderLinesOf (hunk ∷ hunks) text = AreHeaderLines text
+
+-- a text contains the hunks of a diff of two texts, after two header lines; applied where their headers say, they turn the lines of the old text into those
+-- of the new one
 pub record IsUnified (old new text : List ℕ) : Type 0 where
   pub diff : List DiffLine
   pub is_diff : IsDiff old new diff
   pub hunks : List Hunk
   pub are_hunks : AreHunks diff 0 hunks
   pub patches : patched_from diff hunks 0 (lines_of old) ≡ Some (lines_of new)
-  pub names : List ℕ
-  pub whole : text ≡ names ++ flat_map (hunk_text diff) hunks
+  pub header : List ℕ
+  pub is_header : AreHeaderLinesOf hunks header
+  pub whole : text ≡ header ++ flat_map (hunk_text diff) hunks

@@ -1,11 +1,11 @@
 //! Formatting of one file.
 
-ghost use Rattle.std.specs.Prelude.{◌≡◌, IfOk, OnOk};
+ghost use Rattle.std.specs.Prelude.{◌≡◌, true, false, IfOk, IfSome, OnOk};
 ghost use Rattle.std.specs.Io.KnownBytes.{Appends};
-ghost use Rattle.nix_format.specs.Outcomes.{changed_name, input_text, writes, Prints, IsDiffOf, IsPrinted, IsReplaced, IsFinished, IsTextFormatted, IsFileFormatted};
+ghost use Rattle.nix_format.specs.Outcomes.{is_input, changed_name, input_text, writes, Prints, IsDiffOf, IsPrinted, IsReplaced, IsFinished, IsTextFormatted, IsFileFormatted};
 
 use crate::unified::unified_diff;
-use nix_cli::{Program, display_name, location_of, read_text, replace_text, replaceable};
+use nix_cli::{Program, TextReader, display_name, location_of, replace_text, replaceable};
 use nix_diagnostics::first_diagnostics;
 use nix_formatting::{Formatting, formatted};
 use rnix::Root;
@@ -222,23 +222,26 @@ fn format_text<W: Write>(
 }
 
 // Reads and formats a file. A file that cannot be read is reported.
-fn read_and_format<W: Write>(
+fn read_and_format<R: TextReader, W: Write>(
     rt: &HostRuntime,
     program: &Program,
+    reader: &R,
     name: &str,
     task: Task,
     out: &mut W,
 ) -> io::Result<Outcome>
-    ensures { IfOk result (IsFileFormatted task name.now (W.contents out.old) (W.contents out.new)) }
+    ensures { IfOk result (IsFileFormatted task (R.texts reader.now) name.now (W.contents out.old) (W.contents out.new)) }
 {
-    match read_text(rt, program, name)? {
+    match reader.read_text(rt, program, name, out)? {
         Some(text) => format_text(rt, program, name, text.as_str(), task, out),
         None => Ok(Outcome::Failed),
     }
 }
 
 // Returns the reason why a file that is to be written cannot be replaced, if it cannot.
-fn replacement_error(rt: &HostRuntime, name: &str, task: Task) -> Option<io::Error> {
+fn replacement_error(rt: &HostRuntime, name: &str, task: Task) -> Option<io::Error>
+    ensures { IfSome result (λ error. (writes task ≡ true) × (is_input name.now ≡ false)) }
+{
     if task.writes() && name != "-" {
         replaceable(rt, name).err()
     } else {
@@ -247,17 +250,18 @@ fn replacement_error(rt: &HostRuntime, name: &str, task: Task) -> Option<io::Err
 }
 
 /// Formats a file, or standard input for `-`. Reports what fails. A file that is to be written but cannot be replaced is not read.
-pub fn format_file<W: Write>(
+pub fn format_file<R: TextReader, W: Write>(
     rt: &HostRuntime,
     program: &Program,
+    reader: &R,
     name: &str,
     task: Task,
     out: &mut W,
 ) -> io::Result<Outcome>
-    ensures { IfOk result (IsFileFormatted task name.now (W.contents out.old) (W.contents out.new)) }
+    ensures { IfOk result (IsFileFormatted task (R.texts reader.now) name.now (W.contents out.old) (W.contents out.new)) }
 {
     match replacement_error(rt, name, task) {
         Some(error) => fail(rt, program, name, error),
-        None => read_and_format(rt, program, name, task, out),
+        None => read_and_format(rt, program, reader, name, task, out),
     }
 }

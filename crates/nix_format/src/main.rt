@@ -53,7 +53,7 @@ fn task_of(arguments: &Arguments) -> Task {
 // Formats the files that the command line names, and returns the exit status.
 fn format_named(rt: &HostRuntime, arguments: &Arguments) -> io::Result<u8> {
     let files = find_files(rt, &PROGRAM, &arguments.words)?;
-    format_files(rt, &files, task_of(arguments), &mut rt.stdout())
+    format_files(rt, &files, &files, task_of(arguments), &mut rt.stdout())
 }
 
 fn main(rt: HostRuntime) -> ExitCode {

@@ -6,7 +6,7 @@ ghost use Rattle.nix_format.specs.Outcomes.{heading, counted, found_status, stat
 
 use crate::PROGRAM;
 use crate::file::{Outcome, Task, format_file};
-use nix_cli::{FAILED, FOUND, Files, Progress, display_name};
+use nix_cli::{FAILED, FOUND, Files, Progress, TextReader, display_name};
 use std::io::{self, Write};
 
 // The numbers of files with each outcome.
@@ -80,15 +80,16 @@ fn write_heading<W: Write>(has_headings: bool, name: &str, out: &mut W) -> io::R
 }
 
 // Formats the files in order.
-fn format_each<W: Write>(
+fn format_each<R: TextReader, W: Write>(
     rt: &HostRuntime,
+    reader: &R,
     files: &Files,
     task: Task,
     has_headings: bool,
     out: &mut W,
 ) -> io::Result<Tally>
-    ensures { IfOk result (AreFormatted task has_headings files.now.failed (W.contents out.old) (map string_bytes files.now.names.items)
-        (W.contents out.new)) }
+    ensures { IfOk result (AreFormatted task (R.texts reader.now) has_headings files.now.failed (W.contents out.old)
+        (map string_bytes files.now.names.items) (W.contents out.new)) }
 {
     let progress = Progress::of(rt, files.names.len());
     let mut tally = Tally {
@@ -100,7 +101,7 @@ fn format_each<W: Write>(
         let name = files.names[number].as_str();
         progress.show(rt, number)?;
         write_heading(has_headings, name, out)?;
-        let outcome = format_file(rt, &PROGRAM, name, task, out)?;
+        let outcome = format_file(rt, &PROGRAM, reader, name, task, out)?;
         tally = tally.counted(outcome);
     }
     progress.clear(rt)?;
@@ -125,16 +126,18 @@ fn write_counts(rt: &HostRuntime, tally: Tally, task: Task) -> io::Result<()> {
 }
 
 /// Formats the files, and returns the exit status.
-pub fn format_files<W: Write>(
+pub fn format_files<R: TextReader, W: Write>(
     rt: &HostRuntime,
+    reader: &R,
     files: &Files,
     task: Task,
     out: &mut W,
 ) -> io::Result<u8>
-    ensures { IfOk result (IsReport task files.now.failed (map string_bytes files.now.names.items) (W.contents out.old) (W.contents out.new)) }
+    ensures { IfOk result (IsReport task (R.texts reader.now) files.now.failed (map string_bytes files.now.names.items)
+        (W.contents out.old) (W.contents out.new)) }
 {
     let has_headings = task == Task::Print && files.names.len() > 1;
-    let tally = format_each(rt, files, task, has_headings, out)?;
+    let tally = format_each(rt, reader, files, task, has_headings, out)?;
     write_counts(rt, tally, task)?;
     Ok(tally.status(task))
 }

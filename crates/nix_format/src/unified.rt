@@ -3,7 +3,8 @@
 ghost use Rattle.std.specs.Prelude.{◌≡◌, ◌++◌, ◌∷◌, ◌+◌, ◌^◌, ◌<◌, ◌≤◌, ℕ, length, take, drop, IfOk, OnOk, MatchOption, string_bytes, codes, decimal};
 ghost use Rattle.std.specs.List.{flat_map, prefix_len};
 ghost use Rattle.nix_format.specs.Hunks.{is_common, AreCommon, AreCounts, IsNextHunk, AreHunks};
-ghost use Rattle.nix_format.specs.Unified.{with_end, line_text, range_text, header_text, hunk_text, IsUnified};
+ghost use Rattle.nix_format.specs.Diff.{HasNoLineFeed};
+ghost use Rattle.nix_format.specs.Unified.{AreHeaderLinesOf, with_end, line_text, range_text, header_text, hunk_text, IsUnified};
 
 use crate::diff::{DiffLine, line_diff};
 use std::alloc::{AllocError, Global};
@@ -158,12 +159,29 @@ fn name_of(alloc: Global, side: char, name: &str) -> Result<String, AllocError> 
     }
 }
 
-// Writes the names of the two texts.
-fn write_names(alloc: Global, name: &str, out: &mut String) -> Result<(), AllocError> {
+// Returns a text up to its first line feed.
+fn first_line(text: &str) -> &str
+    ensures { HasNoLineFeed result.now }
+{
+    match text.find('\n') {
+        Some(end) => &text[..end],
+        None => text,
+    }
+}
+
+// Returns the header lines of a diff, with the names of the two texts, or nothing if it has no hunks. A line feed in a name is written as an escape, so each
+// name is one line.
+fn header_lines(alloc: Global, name: &str, hunks: &[Hunk]) -> Result<String, AllocError>
+    ensures { IfOk result (λ text. AreHeaderLinesOf hunks.now (string_bytes text)) }
+{
+    if hunks.is_empty() {
+        return Ok(String::new(alloc));
+    }
     let old = name_of(alloc, 'a', name)?;
     let new = name_of(alloc, 'b', name)?;
-    let names = format!(in alloc; "--- {old}\n+++ {new}\n")?;
-    out.push_str(names.as_str())
+    let (old, new) = (first_line(old.as_str()), first_line(new.as_str()));
+    let lines = format!(in alloc; "--- {old}\n+++ {new}\n")?;
+    Ok(lines)
 }
 
 // Returns two numbers with a comma between them.
@@ -277,16 +295,13 @@ fn write_hunks(
     Ok(())
 }
 
-/// Returns the unified diff of two texts with three lines of context, as `diff` and `git` print it. It is empty if the texts are equal.
+/// Returns the unified diff of two texts with three lines of context, as `diff` and `git` print it. It is empty if the diff has no changed lines.
 pub fn unified_diff(alloc: Global, name: &str, old: &str, new: &str) -> Result<String, AllocError>
     ensures { IfOk result (λ text. IsUnified old.now new.now (string_bytes text)) }
 {
     let diff = line_diff(alloc, old, new)?;
     let hunks = hunks_of(alloc, &diff)?;
-    let mut out = String::new(alloc);
-    if !hunks.is_empty() {
-        write_names(alloc, name, &mut out)?;
-    }
+    let mut out = header_lines(alloc, name, &hunks)?;
     write_hunks(alloc, &diff, &hunks, &mut out)?;
     Ok(out)
 }

@@ -18,9 +18,10 @@ loop-number-preserved g c =
     let begun = g.W.Write.contents c.write_heading.new.out in
     let new = g.W.Write.contents c.format_file.new.out in
     let outcome = c.in_ok-outcome.outcome in
-    subst (λ (tally : Tally). AreFormatted c.args.task c.args.has_headings c.args.files.now.failed old (map string_bytes (take (i + 1) names)) new tally)
+    let texts = g.R.TextReader.texts c.args.reader.now in
+    subst (λ (tally : Tally). AreFormatted c.args.task texts c.args.has_headings c.args.files.now.failed old (map string_bytes (take (i + 1) names)) new tally)
     (sym c.counted-tally.ensures)
-    (one_file_more c.args.task c.args.has_headings c.args.files.now.failed old mid begun new names i file c.loop-number.tally outcome
+    (one_file_more c.args.task texts c.args.has_headings c.args.files.now.failed old mid begun new names i file c.loop-number.tally outcome
     (omega (arith, c.loop-number-test.true)) c.index.ensures c.loop-number.invariant
     (subst (λ (name : List ℕ). Appends mid begun (heading c.args.has_headings name)) c.as_str-name.ensures.value c.in_ok-write_heading.ensures)
-    (subst (λ (name : List ℕ). IsFileFormatted c.args.task name begun new outcome) c.as_str-name.ensures.value c.in_ok-outcome.ensures))
+    (subst (λ (name : List ℕ). IsFileFormatted c.args.task texts name begun new outcome) c.as_str-name.ensures.value c.in_ok-outcome.ensures))
