@@ -8,7 +8,7 @@ use Rattle.nix_update.specs.declared.outcome.Attempt.TheVariants as attempt
 -- the result of an attempt on that entry is an outcome of the update
 pub defined_updated : (update : Update) (names : List (List ℕ)) (path starts : List ℕ) (steps : List PathStep) (text : List ℕ) (root : Located)
     (definition : Definition) (attempted : Attempt) (outcome : Outcome) → definitions_in names false steps ≡ definition ∷ [] →
-    outcome ≡ outcome_of attempted → IfMade (IsDefinitionUpdated update.action update names text root definition) attempted →
+    outcome ≡ outcome_of attempted → IfMade (IsDefinitionUpdated update.action update names steps text root definition) attempted →
     IsOutcome update names path starts steps text root outcome
 defined_updated update names path starts steps text root definition (attempt.Made made) outcome only is updated =
     subst (IsOutcome update names path starts steps text root) (sym is) (inl record { definition = definition; only = only; is_updated = updated })

@@ -6,4 +6,5 @@ pub mod OpenNameLemmas
 pub mod PathLemmas
 pub mod UndefinedLemmas
 pub mod DefinedLemmas
+pub mod NotUpdatedLemmas
 pub mod UpdatedLemmas

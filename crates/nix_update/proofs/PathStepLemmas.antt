@@ -1,13 +1,13 @@
 -- The expressions along a path, found one after another.
-use Rattle.std.proofs.Common.{◌≡◌, ℕ, zero, suc, ◌+◌, ◌<◌, ◌≤◌, List, [], ◌∷◌, ◌++◌, length, get_or, false, Some, None, inl, inr, refl, ap, sym, subst, ◌∙◌, arith}
+use Rattle.std.proofs.Common.{◌≡◌, ℕ, zero, suc, ◌+◌, ◌<◌, List, [], ◌∷◌, ◌++◌, length, get_or, false, Some, None, inl, inr, refl, ap, sym, subst, ◌∙◌, arith}
 use Rattle.std.proofs.lemmas.List.{get_or_append_left, get_or_default}
 use Rattle.std.proofs.lemmas.List.Elements.{All-append, All-get_or, Contains-append_left, Contains-append_right}
-use Rattle.std.proofs.lemmas.Option.{slice_get-get_or, slice_get_within, slice_get_past, get_or_from_slice_get, none-some, same_Some}
+use Rattle.std.proofs.lemmas.Option.{slice_get-get_or, slice_get_within, get_or_from_slice_get, none-some, same_Some}
 use Rattle.std.proofs.lemmas.Bool.{cases_lt}
 use Rattle.std.specs.{Prelude.slice_get, List.{All, Contains}}
 use Rattle.rnix_green.specs.Tree.{Located}
 use Rattle.nix_update.specs.declared.steps.PathStep.{PathStep}
-use Rattle.nix_update.specs.PathSteps.{step, step_if, next_steps, IsPathStep, ArePathSteps}
+use Rattle.nix_update.specs.PathSteps.{step, next_steps, IsPathStep, ArePathSteps}
 
 -- these are expressions along the path; the root is one, and those that follow the first n are among them
 pub record AreStepsUpTo (names : List (List ℕ)) (root : Located) (steps : List PathStep) (n : ℕ) : Type 0 where

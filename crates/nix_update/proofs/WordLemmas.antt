@@ -2,7 +2,7 @@
 use Rattle.std.proofs.Common.{◌≡◌, ℕ, ◌<◌, List, [], ◌∷◌, ◌++◌, length, codes, refl, sym, ap, ◌∙◌, subst, arith, append_assoc}
 use Rattle.std.proofs.lemmas.{List.{append-nil, flat_map_more}, Str.encode_ascii}
 use Rattle.std.specs.{Prelude.{flat_map, encode_utf8}, Str.{NoCharPasses, EmptyOrStartsWithPassing}, Char.{is_whitespace, is_not_whitespace}}
-use Rattle.{rnix_base.{specs.Quoted.nix_string, proofs.QuotedLemmas.is_quoted}, nix_update.specs.Words.{StartsWithWord, AreWords, item_text, list_text, IsListOf}}
+use Rattle.{rnix_base.{specs.Quoted.nix_string, proofs.QuotedLemmas.is_quoted}, nix_update.specs.Words.{StartsWithWord, AreWords, item_text, IsListOf}}
 
 -- a list so far: its items are the words before the rest
 pub record ListedBefore (text rest list : List ℕ) : Type 0 where

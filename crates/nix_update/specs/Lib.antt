@@ -5,4 +5,7 @@ pub mod Inner
 pub mod PathMatches
 pub mod PathSteps
 pub mod SameNames
+pub mod SpecialNames
 pub mod Updated
+pub mod NotUpdated
+pub mod Results

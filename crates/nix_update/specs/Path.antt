@@ -40,3 +40,10 @@ pub record IsPath (text : List ℕ) (names : List (List ℕ)) (starts : List ℕ
   pub text_is : text_at path ≡ text
   pub names_are : map static_name (nodes_of is_attr path) ≡ map Some names
   pub starts_are : map (λ attr. (item_of attr).start - 1) (nodes_of is_attr path) ≡ starts
+
+-- a text is no path: as that of an entry of a set it has errors, or it is not the whole path of the only entry, or the text does not determine a name
+pub record IsNoPath (text : List ℕ) : Type 0 where
+  pub read : Reading
+  pub is_read : IsParsed (tokens_of (entry_with text)) read.tree read.faults
+  pub none : (path : Located) (names : List (List ℕ)) → read.faults ≡ [] → path_inside (child_of is_expr 0 (root_of read)) ≡ Some path →
+      text_at path ≡ text → ¬ (map static_name (nodes_of is_attr path) ≡ map Some names)

@@ -31,6 +31,7 @@ use Rattle.nix_update.specs.PathMatches.{is_removable}
 use Rattle.nix_update.specs.Path.{IsPath}
 use Rattle.nix_update.specs.PathSteps.{ArePathSteps, definitions_in}
 use Rattle.nix_update.specs.SameNames.{HaveSameMeaning, HasNoOpenName, no_range}
+use Rattle.nix_update.specs.SpecialNames.{HasNoSpecialName}
 
 -- the value of an entry is set
 pub record IsValueSet (form : Form) (value text : List ℕ) (root entry : Located) (made : List ℕ) : Type 0 where
@@ -57,14 +58,15 @@ pub record IsMeaningKeptWithout (text : List ℕ) (root entry : Located) (made :
   pub others_found : IsResolution (root_of read) others
   pub alike : HaveSameMeaning (change_of entry text made) names others
 
--- an entry that defines the attribute with these names, or a part of it, is removed; unless this is forced, names mean the same without it, and none outside
--- it that may come from a `with` is one of those that lead from the entry's set to the attribute
-pub record IsEntryRemoved (is_forced : Bool) (names : List (List ℕ)) (text : List ℕ) (root : Located) (definition : Definition) (made : List ℕ)
-    : Type 0 where
+-- an entry that defines the attribute with these names, or a part of it, is removed; unless this is forced, names mean the same without it, none outside
+-- it that may come from a `with` is one of those that lead from the entry's set to the attribute, and no name of the path is special in its set
+pub record IsEntryRemoved (is_forced : Bool) (names : List (List ℕ)) (steps : List PathStep) (text : List ℕ) (root : Located) (definition : Definition)
+    (made : List ℕ) : Type 0 where
   pub removable : is_removable definition.path_match ≡ true
   pub removed : IsRemoved text root definition.entry made
   pub kept : is_forced ≡ false → IsMeaningKeptWithout text root definition.entry made
   pub unopened : is_forced ≡ false → HasNoOpenName root (extent_of definition.entry) (drop definition.at names)
+  pub plain : is_forced ≡ false → HasNoSpecialName names steps
 
 -- the last entry among these nodes, or else another node
 abbrev pub last_among : Option Located → List Located → Option Located
@@ -139,22 +141,23 @@ pub record IsRest (starts path : List ℕ) (at : ℕ) (rest : List ℕ) : Type 0
   pub start_is : slice_get starts at ≡ Some start
   pub rest_is : rest ≡ drop start path
 
--- a set gets an entry with the remaining names of the path; unless this is forced, names mean the same with it, and none that may come from a `with` is one
--- of those of the entry
-pub record IsAddedTo (is_forced : Bool) (form : Form) (value path starts : List ℕ) (names : List (List ℕ)) (target : PathStep) (text : List ℕ)
-    (root : Located) (made : List ℕ) : Type 0 where
+-- a set gets an entry with the remaining names of the path; unless this is forced, names mean the same with it, none that may come from a `with` is one
+-- of those of the entry, and no name of the path is special in its set
+pub record IsAddedTo (is_forced : Bool) (form : Form) (value path starts : List ℕ) (names : List (List ℕ)) (steps : List PathStep) (target : PathStep)
+    (text : List ℕ) (root : Located) (made : List ℕ) : Type 0 where
   pub rest : List ℕ
   pub are_rest : IsRest starts path target.at rest
   pub added : IsEntryAdded form value rest text root target.node made
   pub kept : is_forced ≡ false → IsMeaningKeptWith text root target.node made
   pub unopened : is_forced ≡ false → HasNoOpenName root no_range (drop target.at names)
+  pub plain : is_forced ≡ false → HasNoSpecialName names steps
 
 -- this happens to the only set to which the largest number of names lead
 pub record IsAdded (is_forced : Bool) (form : Form) (value path starts : List ℕ) (names : List (List ℕ)) (steps : List PathStep) (text : List ℕ)
     (root : Located) (made : List ℕ) : Type 0 where
   pub target : PathStep
   pub only : insertion_sets_in steps ≡ target ∷ []
-  pub added : IsAddedTo is_forced form value path starts names target text root made
+  pub added : IsAddedTo is_forced form value path starts names steps target text root made
 
 -- the only entry that defines the attribute, among those of sets or of a `let`, defines all of it, and its value is set
 pub record IsOnlySet (of_let : Bool) (update : Update) (names : List (List ℕ)) (steps : List PathStep) (text : List ℕ) (root : Located) (made : List ℕ)
@@ -164,10 +167,11 @@ pub record IsOnlySet (of_let : Bool) (update : Update) (names : List (List ℕ))
   pub is_set : IsEntrySet update.form update.value.now text root definition made
 
 -- the result of an action on the attribute that a single entry defines
-abbrev pub IsDefinitionUpdated : Action → Update → List (List ℕ) → List ℕ → Located → Definition → List ℕ → Type 0
-IsDefinitionUpdated action.Remove update names text root definition made = IsEntryRemoved update.is_forced names text root definition made
-IsDefinitionUpdated action.Set update names text root definition made = IsEntrySet update.form update.value.now text root definition made
-IsDefinitionUpdated action.Add update names text root definition made = IsEntrySet update.form update.value.now text root definition made
+abbrev pub IsDefinitionUpdated : Action → Update → List (List ℕ) → List PathStep → List ℕ → Located → Definition → List ℕ → Type 0
+IsDefinitionUpdated action.Remove update names steps text root definition made =
+    IsEntryRemoved update.is_forced names steps text root definition made
+IsDefinitionUpdated action.Set update names steps text root definition made = IsEntrySet update.form update.value.now text root definition made
+IsDefinitionUpdated action.Add update names steps text root definition made = IsEntrySet update.form update.value.now text root definition made
 
 -- P holds for the new text, if there is one
 abbrev pub IfMade : (List ℕ → Type 0) → Attempt → Type 0
@@ -204,7 +208,7 @@ IsUndefinedUpdated update names path starts steps text root (outcome.Refused ref
 pub record IsSingleUpdated (update : Update) (names : List (List ℕ)) (steps : List PathStep) (text : List ℕ) (root : Located) (made : List ℕ) : Type 0 where
   pub definition : Definition
   pub only : definitions_in names false steps ≡ definition ∷ []
-  pub is_updated : IsDefinitionUpdated update.action update names text root definition made
+  pub is_updated : IsDefinitionUpdated update.action update names steps text root definition made
 
 -- the result of an update where no entry of a set defines the attribute
 abbrev pub IsNoneUpdated : Update → List (List ℕ) → List ℕ → List ℕ → List PathStep → List ℕ → Located → Outcome → Type 0
@@ -242,9 +246,3 @@ pub record IsOutcomeOf (update : Update) (text : List ℕ) (made : Outcome) : Ty
   pub are_steps : ArePathSteps names (root_in tree) steps
   pub is_outcome : IsOutcome update names update.path.now starts steps text (root_in tree) made
   pub repeated : IfNew (HasNoMoreRepeated (root_in tree)) made
-
--- a new text is the result of an update
-abbrev pub IsUpdated : Update → List ℕ → Outcome → Type 0
-IsUpdated update text (outcome.Refused refused) = Unit {0}
-IsUpdated update text (outcome.Updated made) = IsOutcomeOf update text (outcome.Updated made)
-IsUpdated update text (outcome.SetInLet made offset) = IsOutcomeOf update text (outcome.SetInLet made offset)

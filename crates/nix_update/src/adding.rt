@@ -1,8 +1,10 @@
 //! Adding an attribute.
 
-ghost use Rattle.std.specs.Prelude.{◌≡◌, false, drop, map, string_bytes, IfOk, IfSome};
+ghost use Rattle.std.specs.Prelude.{◌≡◌, false, drop, map, string_bytes, IfOk, IfSome, IfNone};
 ghost use Rattle.nix_update.specs.SameNames.{HasNoOpenName, no_range};
+ghost use Rattle.nix_update.specs.SpecialNames.{HasNoSpecialName};
 ghost use Rattle.nix_update.specs.Updated.{IfMade, IsRest, IsEntryAdded, IsAddedTo, IsAdded, IsMeaningKeptWith};
+ghost use Rattle.nix_update.specs.NotUpdated.{IfRefused, HasNoRest, IsEntryRefused, IsAdditionRefused, IsNotAddedTo, IsNotAdded};
 
 use crate::change::add_value;
 use crate::guard::{Site, addition_refusal};
@@ -18,7 +20,8 @@ use std::alloc::{AllocError, Global};
 
 // Returns the text of a path from the name with index `at` on.
 fn rest_at<'p>(path: &Path<'p>, at: usize) -> Option<&'p str>
-    ensures { IfSome result (λ rest. IsRest path.now.starts.items path.now.text.now at rest.now) }
+    ensures rest { IfSome result (λ rest. IsRest path.now.starts.items path.now.text.now at rest.now) }
+    ensures none { IfNone result (HasNoRest path.now.starts.items path.now.text.now at) }
 {
     let start = path.starts.get(at)?;
     path.text.get(*start..)
@@ -33,7 +36,8 @@ fn add_entry(
     update: Update<'_>,
     set: &SyntaxNode<'_>,
 ) -> Result<Attempt, AllocError>
-    ensures { IfOk result (IfMade (IsEntryAdded update.entry.form update.entry.value.now names.now text.now root.now set.now)) }
+    ensures made { IfOk result (IfMade (IsEntryAdded update.entry.form update.entry.value.now names.now text.now root.now set.now)) }
+    ensures refused { IfOk result (IfRefused (IsEntryRefused update.entry.form update.entry.value.now names.now text.now root.now set.now)) }
 {
     let edited = add_value(alloc, text, root, set, names, update.form, update.value)?;
     match edited {
@@ -53,9 +57,12 @@ fn accept_added(
     is_forced: bool,
     made: String,
 ) -> Result<Attempt, AllocError>
-    ensures { IfOk result (IfMade (λ text. (text ≡ string_bytes made)
+    ensures made { IfOk result (IfMade (λ text. (text ≡ string_bytes made)
         × (is_forced ≡ false → IsMeaningKeptWith site.entry.text.now site.entry.root.now site.entry.set.now text)
-        × (is_forced ≡ false → HasNoOpenName site.entry.root.now no_range (drop site.entry.at (map string_bytes site.entry.names.now))))) }
+        × (is_forced ≡ false → HasNoOpenName site.entry.root.now no_range (drop site.entry.at (map string_bytes site.entry.names.now)))
+        × (is_forced ≡ false → HasNoSpecialName (map string_bytes site.entry.names.now) site.entry.steps.now))) }
+    ensures refused { IfOk result (IfRefused (λ why. (is_forced ≡ false) × IsAdditionRefused (map string_bytes site.entry.names.now) site.entry.steps.now
+        site.entry.at site.entry.text.now site.entry.root.now site.entry.set.now (string_bytes made) why)) }
 {
     if is_forced {
         return Ok(Attempt::Made(made));
@@ -76,8 +83,10 @@ fn add_to(
     update: Update<'_>,
     target: &PathStep<'_>,
 ) -> Result<Attempt, AllocError>
-    ensures { IfOk result (IfMade (IsAddedTo update.entry.is_forced update.entry.form update.entry.value.now path.now.text.now path.now.starts.items
-        (map string_bytes path.now.names.items) target.now text.now root.now)) }
+    ensures made { IfOk result (IfMade (IsAddedTo update.entry.is_forced update.entry.form update.entry.value.now path.now.text.now path.now.starts.items
+        (map string_bytes path.now.names.items) steps.now target.now text.now root.now)) }
+    ensures refused { IfOk result (IfRefused (IsNotAddedTo update.entry.is_forced update.entry.form update.entry.value.now path.now.text.now
+        path.now.starts.items (map string_bytes path.now.names.items) steps.now target.now text.now root.now)) }
 {
     let Some(names) = rest_at(path, target.at) else {
         return Ok(Attempt::Refused(refuse(Reason::NotAPath)));
@@ -106,8 +115,10 @@ pub fn add(
     steps: &[PathStep<'_>],
     update: Update<'_>,
 ) -> Result<Attempt, AllocError>
-    ensures { IfOk result (IfMade (IsAdded update.entry.is_forced update.entry.form update.entry.value.now path.now.text.now path.now.starts.items
+    ensures made { IfOk result (IfMade (IsAdded update.entry.is_forced update.entry.form update.entry.value.now path.now.text.now path.now.starts.items
         (map string_bytes path.now.names.items) steps.now text.now root.now)) }
+    ensures refused { IfOk result (IfRefused (IsNotAdded update.entry.is_forced update.entry.form update.entry.value.now path.now.text.now
+        path.now.starts.items (map string_bytes path.now.names.items) steps.now text.now root.now)) }
 {
     let sets = insertion_sets(alloc, steps)?;
     let Some(target) = sets.first() else {

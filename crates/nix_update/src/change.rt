@@ -4,6 +4,7 @@ ghost use Rattle.std.specs.Prelude.{◌≡◌, string_bytes, IfOk, IfSome, IfNon
 ghost use Rattle.rnix_edit.specs.Edited.{IfDone, IfRefused};
 ghost use Rattle.nix_update.specs.NewValue.{IsNoValue, IsSetTo, IsNotSetTo};
 ghost use Rattle.nix_update.specs.Updated.{last_entry, entry_text, IsEntryInserted, IsEntryAdded};
+ghost use Rattle.nix_update.specs.NotUpdated.{IsEntryNotInserted, IsEntryNotAdded};
 
 use crate::value::{Form, value_of};
 use rnix::ast::{AstNode, Entry};
@@ -63,7 +64,8 @@ fn insert_entry(
     set: &SyntaxNode<'_>,
     entry: &str,
 ) -> Result<Edited, AllocError>
-    ensures { IfOk result (IfDone (IsEntryInserted (last_entry set.now) text.now root.now set.now entry.now)) }
+    ensures done { IfOk result (IfDone (IsEntryInserted (last_entry set.now) text.now root.now set.now entry.now)) }
+    ensures refused { IfOk result (IfRefused (λ refusal. IsEntryNotInserted refusal (last_entry set.now) text.now root.now set.now entry.now)) }
 {
     let kind = SyntaxKind::NODE_ATTRPATH_VALUE;
     match last_entry(set) {
@@ -83,6 +85,8 @@ pub fn add_value(
     value: &str,
 ) -> Result<Option<Edited>, AllocError>
     ensures done { IfOk result (λ edited. IfSome edited (IfDone (IsEntryAdded form value.now names.now text.now root.now set.now))) }
+    ensures refused { IfOk result (λ edited. IfSome edited (IfRefused (λ refusal.
+        IsEntryNotAdded refusal form value.now names.now text.now root.now set.now))) }
     ensures none { IfOk result (λ edited. IfNone edited (IsNoValue form value.now)) }
 {
     let Some(new) = value_of(alloc, form, value)? else {

@@ -1,11 +1,15 @@
 //! Checks that other names keep their meaning when an attribute is added or removed.
 
-ghost use Rattle.std.specs.Prelude.{◌≡◌, None, drop, map, string_bytes, bytes_eq, IfOk, IfNone};
+ghost use Rattle.std.specs.Prelude.{◌≡◌, ◌&&◌, not, None, drop, map, option_map, slice_get, string_bytes, bytes_eq, IsSome, IfOk, IfSome, IfNone};
 ghost use Rattle.std.specs.List.{list_any};
 ghost use Rattle.std.specs.Cow.{cow_str_bytes};
 ghost use Rattle.rnix_green.specs.Range.{bounds_of};
 ghost use Rattle.rnix_green.specs.Tree.{extent_of};
 ghost use Rattle.nix_update.specs.SameNames.{begins_outside, is_open_among, HasNoOpenName, no_range};
+ghost use Rattle.nix_scopes.specs.Binders.{is_recursive};
+ghost use Rattle.nix_update.specs.declared.outcome.Reason.TheVariants as reason;
+ghost use Rattle.nix_update.specs.SpecialNames.{is_special, is_special_if, is_special_step, HasSpecialName, HasNoSpecialName};
+ghost use Rattle.nix_update.specs.NotUpdated.{HasOpenName, IsMeaningChangedWith, IsMeaningChangedWithout, IsAdditionRefused, IsRemovalRefused};
 ghost use Rattle.nix_update.specs.Updated.{set_at, entry_at, change_of, IsMeaningKeptWith, IsMeaningKeptWithout};
 
 use crate::change::last_entry;
@@ -31,15 +35,22 @@ pub struct Site<'s, 't> {
 }
 
 // Returns whether operators refer to a name, or `rec` sets treat it specially.
-fn is_special(name: &str) -> bool {
-    matches!(
-        name,
-        "__sub" | "__mul" | "__div" | "__lessThan" | "__findFile" | "__nixPath" | "__overrides"
-    )
+fn is_special(name: &str) -> bool
+    ensures { result ≡ is_special name.now }
+{
+    name == "__sub"
+        || name == "__mul"
+        || name == "__div"
+        || name == "__lessThan"
+        || name == "__findFile"
+        || name == "__nixPath"
+        || name == "__overrides"
 }
 
 // Returns whether the name with index `at` is special in this sense.
-fn is_special_at(names: &[String], at: usize) -> bool {
+fn is_special_at(names: &[String], at: usize) -> bool
+    ensures { result ≡ is_special_if (slice_get (map string_bytes names.now) at) }
+{
     match names.get(at) {
         Some(name) => is_special(name.as_str()),
         None => false,
@@ -47,22 +58,29 @@ fn is_special_at(names: &[String], at: usize) -> bool {
 }
 
 // Returns whether a node is a set with `rec`.
-fn is_recursive(node: &SyntaxNode<'_>) -> bool {
+fn is_recursive(node: &SyntaxNode<'_>) -> bool
+    ensures { result ≡ is_recursive node.now }
+{
     match AttrSet::cast(node.clone()) {
         Some(set) => set.rec_token().is_some(),
         None => false,
     }
 }
 
-// Returns whether an expression along the path is a set, and no name of a `let` leads to it.
-fn is_set(step: &PathStep<'_>) -> bool {
-    step.node.kind() == SyntaxKind::NODE_ATTR_SET && !step.in_let
+// Returns whether an expression along the path is a `rec` set, to which no name of a `let` leads, and the next name of the path is special.
+fn is_special_step(names: &[String], step: &PathStep<'_>) -> bool
+    ensures { result ≡ is_special_step (map string_bytes names.now) step.now }
+{
+    !step.in_let && is_special_at(names, step.at) && is_recursive(&step.node)
 }
 
 // Returns the first `rec` set along the path in which the next name of the path is special.
-fn special_set<'s, 't>(site: Site<'s, 't>) -> Option<&'s SyntaxNode<'t>> {
+fn special_set<'s, 't>(site: Site<'s, 't>) -> Option<&'s SyntaxNode<'t>>
+    ensures some { IfSome result (λ set. HasSpecialName (map string_bytes site.entry.names.now) site.entry.steps.now) }
+    ensures none { IfNone result (HasNoSpecialName (map string_bytes site.entry.names.now) site.entry.steps.now) }
+{
     for step in site.steps {
-        if is_set(step) && is_special_at(site.names, step.at) && is_recursive(&step.node) {
+        if is_special_step(site.names, step) {
             return Some(&step.node);
         }
     }
@@ -70,7 +88,11 @@ fn special_set<'s, 't>(site: Site<'s, 't>) -> Option<&'s SyntaxNode<'t>> {
 }
 
 // Returns the reason, if there is one, why no attribute can be added to a set or removed from it, whatever names refer to.
-fn set_refusal(site: Site<'_, '_>) -> Option<Refused> {
+fn set_refusal(site: Site<'_, '_>) -> Option<Refused>
+    ensures some { IfSome result (λ refused. (refused.reason ≡ reason.SpecialName)
+        × HasSpecialName (map string_bytes site.entry.names.now) site.entry.steps.now) }
+    ensures none { IfNone result (HasNoSpecialName (map string_bytes site.entry.names.now) site.entry.steps.now) }
+{
     let set = special_set(site)?;
     Some(refuse_at(Reason::SpecialName, set.text_range().start()))
 }
@@ -114,16 +136,17 @@ fn difference_with(
     set: &SyntaxNode<'_>,
     made: &str,
 ) -> Result<Option<usize>, AllocError>
-    ensures { IfOk result (λ offset. IfNone offset (IsMeaningKeptWith text.now root.now set.now made.now)) }
+    ensures none { IfOk result (λ offset. IfNone offset (IsMeaningKeptWith text.now root.now set.now made.now)) }
+    ensures some { IfOk result (λ offset. IfSome offset (λ at. IsMeaningChangedWith text.now root.now set.now made.now)) }
 {
     let start = set.text_range().start();
     let read = Root::parse(alloc, made)?;
     let new = read.syntax();
+    let names = resolve(alloc, root)?;
+    let others = resolve(alloc, &new)?;
     let Some(entry) = entry_at(&new, start) else {
         return Ok(Some(start));
     };
-    let names = resolve(alloc, root)?;
-    let others = resolve(alloc, &new)?;
     match first_difference(change_of(&entry, made, text), &others, &names) {
         Some(difference) => Ok(Some(difference.shorter.unwrap_or(start))),
         None => Ok(None),
@@ -138,7 +161,8 @@ fn difference_without(
     entry: &SyntaxNode<'_>,
     made: &str,
 ) -> Result<Option<usize>, AllocError>
-    ensures { IfOk result (λ offset. IfNone offset (IsMeaningKeptWithout text.now root.now entry.now made.now)) }
+    ensures none { IfOk result (λ offset. IfNone offset (IsMeaningKeptWithout text.now root.now entry.now made.now)) }
+    ensures some { IfOk result (λ offset. IfSome offset (λ at. IsMeaningChangedWithout text.now root.now entry.now made.now)) }
 {
     let start = entry.text_range().start();
     let read = Root::parse(alloc, made)?;
@@ -186,7 +210,8 @@ fn open_name(
     range: TextRange,
     names: &[String],
 ) -> Result<Option<usize>, AllocError>
-    ensures { IfOk result (λ offset. IfNone offset (HasNoOpenName root.now (bounds_of range) (map string_bytes names.now))) }
+    ensures none { IfOk result (λ offset. IfNone offset (HasNoOpenName root.now (bounds_of range) (map string_bytes names.now))) }
+    ensures some { IfOk result (λ offset. IfSome offset (λ at. HasOpenName root.now (bounds_of range) (map string_bytes names.now))) }
 {
     let found = resolve(alloc, root)?;
     for reference in found.references() {
@@ -213,8 +238,10 @@ fn open_name_refusal(
     site: Site<'_, '_>,
     range: TextRange,
 ) -> Result<Option<Refused>, AllocError>
-    ensures { IfOk result (λ refused. IfNone refused
+    ensures none { IfOk result (λ refused. IfNone refused
         (HasNoOpenName site.entry.root.now (bounds_of range) (drop site.entry.at (map string_bytes site.entry.names.now)))) }
+    ensures some { IfOk result (λ refused. IfSome refused (λ refused. (refused.reason ≡ reason.ChangedMeaning)
+        × HasOpenName site.entry.root.now (bounds_of range) (drop site.entry.at (map string_bytes site.entry.names.now)))) }
 {
     let names = rest_of(site.names, site.at);
     let offset = open_name(alloc, site.root, range, names)?;
@@ -223,7 +250,8 @@ fn open_name_refusal(
 
 // Returns the refusal for a name that would mean something else, if there is one.
 fn meaning_refusal(offset: Option<usize>) -> Option<Refused>
-    ensures { IfNone result (offset ≡ None) }
+    ensures none { IfNone result (offset ≡ None) }
+    ensures some { IfSome result (λ refused. (refused.reason ≡ reason.ChangedMeaning) × IsSome offset) }
 {
     match offset {
         Some(offset) => Some(refuse_at(Reason::ChangedMeaning, offset)),
@@ -240,6 +268,9 @@ pub fn addition_refusal(
     ensures kept { IfOk result (λ refused. IfNone refused (IsMeaningKeptWith site.entry.text.now site.entry.root.now site.entry.set.now made.now)) }
     ensures unopened { IfOk result (λ refused. IfNone refused
         (HasNoOpenName site.entry.root.now no_range (drop site.entry.at (map string_bytes site.entry.names.now)))) }
+    ensures plain { IfOk result (λ refused. IfNone refused (HasNoSpecialName (map string_bytes site.entry.names.now) site.entry.steps.now)) }
+    ensures refused { IfOk result (λ refused. IfSome refused (λ refused. IsAdditionRefused (map string_bytes site.entry.names.now)
+        site.entry.steps.now site.entry.at site.entry.text.now site.entry.root.now site.entry.set.now made.now refused.reason)) }
 {
     if let Some(refused) = set_refusal(site) {
         return Ok(Some(refused));
@@ -261,6 +292,9 @@ pub fn removal_refusal(
     ensures kept { IfOk result (λ refused. IfNone refused (IsMeaningKeptWithout site.entry.text.now site.entry.root.now entry.now made.now)) }
     ensures unopened { IfOk result (λ refused. IfNone refused
         (HasNoOpenName site.entry.root.now (extent_of entry.now) (drop site.entry.at (map string_bytes site.entry.names.now)))) }
+    ensures plain { IfOk result (λ refused. IfNone refused (HasNoSpecialName (map string_bytes site.entry.names.now) site.entry.steps.now)) }
+    ensures refused { IfOk result (λ refused. IfSome refused (λ refused. IsRemovalRefused (map string_bytes site.entry.names.now)
+        site.entry.steps.now site.entry.at site.entry.text.now site.entry.root.now entry.now made.now refused.reason)) }
 {
     if let Some(refused) = set_refusal(site) {
         return Ok(Some(refused));

@@ -1,5 +1,7 @@
 //! The result of an update.
 
+ghost use Rattle.std.specs.Prelude.{◌≡◌};
+
 use rnix_edit::Refusal;
 use std::fmt;
 
@@ -63,7 +65,9 @@ pub enum Attempt {
 }
 
 /// Returns the refusal for a reason that has one offset.
-pub fn refuse_at(reason: Reason, offset: usize) -> Refused {
+pub fn refuse_at(reason: Reason, offset: usize) -> Refused
+    ensures { result.reason ≡ reason }
+{
     Refused {
         reason,
         offset: Some(offset),
@@ -72,7 +76,9 @@ pub fn refuse_at(reason: Reason, offset: usize) -> Refused {
 }
 
 /// Returns the refusal for a reason that has two offsets.
-pub fn refuse_with_first(reason: Reason, first: usize, second: usize) -> Refused {
+pub fn refuse_with_first(reason: Reason, first: usize, second: usize) -> Refused
+    ensures { result.reason ≡ reason }
+{
     Refused {
         reason,
         offset: Some(second),
@@ -81,7 +87,9 @@ pub fn refuse_with_first(reason: Reason, first: usize, second: usize) -> Refused
 }
 
 /// Returns the refusal for a reason that has no offset in the text.
-pub fn refuse(reason: Reason) -> Refused {
+pub fn refuse(reason: Reason) -> Refused
+    ensures { result.reason ≡ reason }
+{
     Refused {
         reason,
         offset: None,

@@ -1,12 +1,12 @@
 //! The dotted path of an attribute.
 
-ghost use Rattle.std.specs.Prelude.{◌≡◌, ◌++◌, ◌-◌, Some, map, option_map, string_bytes, IfOk, IfSome, OnOk};
+ghost use Rattle.std.specs.Prelude.{◌≡◌, ◌++◌, ◌-◌, ℕ, List, Some, map, option_map, string_bytes, IfOk, IfSome, IfNone, OnOk};
 ghost use Rattle.rnix_green.specs.Tree.{item_of};
 ghost use Rattle.rnix_green.specs.Walk.{nodes_in, children_of};
 ghost use Rattle.rnix_base.specs.Select.{child_of, nodes_of};
 ghost use Rattle.rnix.specs.NodeKinds.{is_attr, is_expr};
 ghost use Rattle.rnix.specs.AttrName.{static_name};
-ghost use Rattle.nix_update.specs.Path.{path_by, path_inside, entry_with, IsPath};
+ghost use Rattle.nix_update.specs.Path.{path_by, path_inside, entry_with, IsPath, IsNoPath};
 
 use rnix::ast::{AstNode, AttrSet, Attrpath, AttrpathValue};
 use rnix::{Root, SyntaxNode};
@@ -51,6 +51,7 @@ fn path_in<'p>(
         ≡ map Some (map string_bytes path.names.items))) }
     ensures starts { IfOk result (λ path. IfSome path (λ path. map (λ attr. (item_of attr).start - 1) (nodes_of is_attr attrpath.now)
         ≡ path.starts.items)) }
+    ensures none { IfOk result (λ path. IfNone path ((names : List (List ℕ)) → ¬ (map static_name (nodes_of is_attr attrpath.now) ≡ map Some names))) }
 {
     let mut names = Vec::new(alloc);
     let mut starts = Vec::new(alloc);
@@ -74,6 +75,7 @@ fn path_in<'p>(
 pub fn path_of<'p>(alloc: Global, text: &'p str) -> Result<Option<Path<'p>>, AllocError>
     ensures text { IfOk result (λ path. IfSome path (λ path. path.text.now ≡ text.now)) }
     ensures is_path { IfOk result (λ path. IfSome path (λ path. IsPath text.now (map string_bytes path.names.items) path.starts.items)) }
+    ensures none { IfOk result (λ path. IfNone path (IsNoPath text.now)) }
 {
     let entry = entry_with(alloc, text)?;
     let read = Root::parse(alloc, entry.as_str())?;

@@ -1,21 +1,15 @@
 //! Strings without interpolations.
 
-use rnix::ast::{Expr, InterpolPart, Str};
+ghost use Rattle.std.specs.Prelude.{◌≡◌};
+ghost use Rattle.nix_update.specs.NotUpdated.{is_plain_string};
 
-// Returns whether a string has an interpolation.
-fn has_interpolation(string: &Str<'_>) -> bool {
-    for part in string.parts() {
-        if let InterpolPart::Interpolation(_) = part {
-            return true;
-        }
-    }
-    false
-}
+use rnix::ast::Interpol;
+use rnix::{SyntaxKind, SyntaxNode};
+use rnix_base::child_at;
 
 /// Returns whether an expression is a string without interpolations.
-pub fn is_plain_string(expr: &Expr<'_>) -> bool {
-    match expr {
-        Expr::Str(string) => !has_interpolation(string),
-        _ => false,
-    }
+pub fn is_plain_string(node: &SyntaxNode<'_>) -> bool
+    ensures { result ≡ is_plain_string node.now }
+{
+    node.kind() == SyntaxKind::NODE_STRING && child_at::<Interpol<'_>>(node, 0).is_none()
 }

@@ -1,6 +1,7 @@
 //! Setting the value of an entry.
 
 ghost use Rattle.std.specs.Prelude.{IfOk};
+ghost use Rattle.nix_update.specs.NotUpdated.{IfRefused, IsInexact, IsValueNotSet, IsEntryNotSet};
 ghost use Rattle.nix_update.specs.Updated.{IfMade, IsValueSet, IsEntrySet};
 
 use crate::change::set_value;
@@ -25,14 +26,15 @@ fn set_entry_value(
     update: Update<'_>,
     entry: &SyntaxNode<'_>,
 ) -> Result<Attempt, AllocError>
-    ensures { IfOk result (IfMade (IsValueSet update.entry.form update.entry.value.now text.now root.now entry.now)) }
+    ensures made { IfOk result (IfMade (IsValueSet update.entry.form update.entry.value.now text.now root.now entry.now)) }
+    ensures refused { IfOk result (IfRefused (IsValueNotSet update.entry.form update.entry.value.now text.now root.now entry.now)) }
 {
     let Some(value) = child_at::<Expr<'_>>(entry, 0) else {
         return Ok(Attempt::Refused(refuse_at(Reason::NotNix, start_of(entry))));
     };
     let node = value.syntax();
     let start = start_of(node);
-    if update.form == Form::Text && !is_plain_string(&value) {
+    if update.form == Form::Text && !is_plain_string(node) {
         return Ok(Attempt::Refused(refuse_at(Reason::NotAString, start)));
     }
     match set_value(alloc, text, root, node, update.form, update.value)? {
@@ -52,7 +54,8 @@ pub fn set_entry(
     update: Update<'_>,
     definition: &Definition<'_>,
 ) -> Result<Attempt, AllocError>
-    ensures { IfOk result (IfMade (IsEntrySet update.entry.form update.entry.value.now text.now root.now definition.now)) }
+    ensures made { IfOk result (IfMade (IsEntrySet update.entry.form update.entry.value.now text.now root.now definition.now)) }
+    ensures refused { IfOk result (IfRefused (IsEntryNotSet update.entry.form update.entry.value.now text.now root.now definition.now)) }
 {
     match definition.path_match {
         PathMatch::Exact => set_entry_value(alloc, text, root, update, &definition.entry),
@@ -64,7 +67,9 @@ pub fn set_entry(
 }
 
 // Returns the refusal to change an entry that does not define all of an attribute.
-fn inexact_reason(path_match: PathMatch) -> Reason {
+fn inexact_reason(path_match: PathMatch) -> Reason
+    ensures { IsInexact path_match result }
+{
     match path_match {
         PathMatch::Inherited => Reason::Inherited,
         _ => Reason::PartialDefinition,

@@ -1,8 +1,11 @@
 //! Texts in which an attribute is set, added or removed.
 
-ghost use Rattle.std.specs.Prelude.{◌≡◌, true, length, map, string_bytes, IfOk, IsTrue};
+ghost use Rattle.std.specs.Prelude.{◌≡◌, ◌⊎◌, true, length, map, string_bytes, IfOk, IsTrue, IsFalse};
 ghost use Rattle.nix_lints.specs.Repeated.{repeated_in};
-ghost use Rattle.nix_update.specs.Updated.{IfMade, IfNew, HasNoMoreRepeated, IfUpdated, IfSetInLet, outcome_of, IsOnlySet, IsDefinitionUpdated, IsUndefinedUpdated, IsOutcome, IsUpdated};
+ghost use Rattle.nix_update.specs.Updated.{IfMade, IfNew, HasNoMoreRepeated, IfUpdated, IfSetInLet, outcome_of, IsOnlySet, IsDefinitionUpdated, IsUndefinedUpdated, IsOutcome};
+ghost use Rattle.nix_update.specs.declared.outcome.Reason.TheVariants as reason;
+ghost use Rattle.nix_update.specs.NotUpdated.{IfRefused, IfNone, IsNotSetInLet, IsDefinitionRefused, IsUndefinedRefused, IsAttributeRefused};
+ghost use Rattle.nix_update.specs.Results.{HasNew, HasMoreRepeated, IsUpdated};
 
 use crate::adding::add;
 use crate::definitions::{Definition, definitions_of};
@@ -19,7 +22,9 @@ use rnix::{Root, SyntaxNode};
 use std::alloc::{AllocError, Global};
 
 // Returns the refusal if several entries define the attribute.
-fn refuse_several(first: &Definition<'_>, second: &Definition<'_>) -> Refused {
+fn refuse_several(first: &Definition<'_>, second: &Definition<'_>) -> Refused
+    ensures { result.reason ≡ reason.SeveralEntries }
+{
     refuse_with_first(
         Reason::SeveralEntries,
         start_of(&first.entry),
@@ -28,7 +33,9 @@ fn refuse_several(first: &Definition<'_>, second: &Definition<'_>) -> Refused {
 }
 
 // Returns the refusal if no entry defines the attribute.
-fn refuse_none(steps: &[PathStep<'_>], root: &SyntaxNode<'_>) -> Refused {
+fn refuse_none(steps: &[PathStep<'_>], root: &SyntaxNode<'_>) -> Refused
+    ensures { result.reason ≡ reason.NoAttribute }
+{
     let end = deepest_node(steps, root);
     refuse_at(Reason::NoAttribute, start_of(&end))
 }
@@ -44,6 +51,7 @@ fn set_in_let(
 ) -> Result<Outcome, AllocError>
     ensures set { IfOk result (IfSetInLet (IsOnlySet true update.entry (map string_bytes path.now.names.items) steps.now text.now root.now)) }
     ensures no_other { IfOk result (IfUpdated (λ made. ⊥)) }
+    ensures refused { IfOk result (IfNone (IsNotSetInLet update.entry (map string_bytes path.now.names.items) steps.now text.now root.now)) }
 {
     let definitions = definitions_of(alloc, &path.names, steps, true)?;
     let Some(definition) = definitions.first() else {
@@ -68,7 +76,10 @@ fn update_defined(
     update: Update<'_>,
     definition: &Definition<'_>,
 ) -> Result<Attempt, AllocError>
-    ensures { IfOk result (IfMade (IsDefinitionUpdated update.entry.action update.entry (map string_bytes names.now) text.now root.now definition.now)) }
+    ensures made { IfOk result (IfMade (IsDefinitionUpdated update.entry.action update.entry (map string_bytes names.now) steps.now text.now root.now
+        definition.now)) }
+    ensures refused { IfOk result (IfRefused (IsDefinitionRefused update.entry.action update.entry (map string_bytes names.now) steps.now text.now root.now
+        definition.now)) }
 {
     match update.action {
         Action::Remove => remove_entry(alloc, text, root, names, steps, update, definition),
@@ -85,8 +96,10 @@ fn update_undefined(
     steps: &[PathStep<'_>],
     update: Update<'_>,
 ) -> Result<Outcome, AllocError>
-    ensures { IfOk result (IsUndefinedUpdated update.entry (map string_bytes path.now.names.items) path.now.text.now path.now.starts.items
+    ensures made { IfOk result (IsUndefinedUpdated update.entry (map string_bytes path.now.names.items) path.now.text.now path.now.starts.items
         steps.now text.now root.now) }
+    ensures refused { IfOk result (IfNone (IsUndefinedRefused update.entry.action update.entry (map string_bytes path.now.names.items)
+        path.now.text.now path.now.starts.items steps.now text.now root.now)) }
 {
     match update.action {
         Action::Remove => Ok(Outcome::Refused(refuse_none(steps, root))),
@@ -117,8 +130,10 @@ fn update_in(
     steps: &[PathStep<'_>],
     update: Update<'_>,
 ) -> Result<Outcome, AllocError>
-    ensures { IfOk result (IsOutcome update.entry (map string_bytes path.now.names.items) path.now.text.now path.now.starts.items
+    ensures made { IfOk result (IsOutcome update.entry (map string_bytes path.now.names.items) path.now.text.now path.now.starts.items
         steps.now text.now root.now) }
+    ensures refused { IfOk result (IfNone (IsAttributeRefused update.entry (map string_bytes path.now.names.items) path.now.text.now path.now.starts.items
+        steps.now text.now root.now)) }
 {
     let definitions = definitions_of(alloc, &path.names, steps, false)?;
     let Some(definition) = definitions.first() else {
@@ -151,7 +166,8 @@ fn count_repeated(alloc: Global, root: &SyntaxNode<'_>) -> Result<usize, AllocEr
 
 // Returns whether a new text has no more names that define an attribute again than the old one.
 fn is_as_defined(alloc: Global, root: &SyntaxNode<'_>, made: &str) -> Result<bool, AllocError>
-    ensures { IfOk result (λ is. IsTrue is → HasNoMoreRepeated root.now made.now) }
+    ensures yes { IfOk result (λ is. IsTrue is → HasNoMoreRepeated root.now made.now) }
+    ensures no { IfOk result (λ is. IsFalse is → HasMoreRepeated root.now made.now) }
 {
     let read = Root::parse(alloc, made)?;
     let count = count_repeated(alloc, &read.syntax())?;
@@ -160,7 +176,9 @@ fn is_as_defined(alloc: Global, root: &SyntaxNode<'_>, made: &str) -> Result<boo
 
 // Returns an outcome, or the refusal if its text defines an attribute again that cannot be defined again.
 fn accept(alloc: Global, root: &SyntaxNode<'_>, outcome: Outcome) -> Result<Outcome, AllocError>
-    ensures { IfOk result (λ accepted. IfNew (λ made. (accepted ≡ outcome) × HasNoMoreRepeated root.now made) accepted) }
+    ensures made { IfOk result (λ accepted. IfNew (λ made. (accepted ≡ outcome) × HasNoMoreRepeated root.now made) accepted) }
+    ensures refused { IfOk result (λ accepted. IfNone (λ why. (accepted ≡ outcome)
+        ⊎ ((why ≡ reason.Repeated) × HasNew (HasMoreRepeated root.now) outcome)) accepted) }
 {
     let is_good = match &outcome {
         Outcome::Updated(made) | Outcome::SetInLet(made, _) => {

@@ -1,4 +1,3 @@
-use Rattle.std.{proofs.Common.{◌≡◌, ◌≤◌, take, drop, length}, specs.List.AllZip}
 use Rattle.nix_scopes.specs.Bound.{references_of}
 use Rattle.nix_update.specs.SameNames.{IsSameReference, is_outside}
 use Rattle.nix_update.proofs.SameNamesLemmas.{RestDecides}

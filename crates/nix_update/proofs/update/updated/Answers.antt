@@ -1,6 +1,6 @@
 use Rattle.std.proofs.Common.{◌≡◌, ◌≤◌, [], length, map, string_bytes, ap, subst, sym, ◌∙◌, arith}
 use Rattle.std.{proofs.lemmas.List.{nil_from_length}, specs.Prelude.{IfSome}}
-use Rattle.{rnix_grammar.specs.Fault.fault_of, nix_update.specs.{Path.IsPath, PathSteps.ArePathSteps, Updated.IsOutcome}, nix_update.proofs.UpdatedLemmas.whole_update}
+use Rattle.{rnix_grammar.specs.Fault.fault_of, nix_update.specs.{Path.IsPath, PathSteps.ArePathSteps, Updated.IsOutcome, NotUpdated.{IfNone, IsAttributeRefused}}, nix_update.proofs.UpdatedLemmas.whole_update}
 use Rattle.nix_update.proofs.update.updated.Goals as goal
 
 pub returns : goal.returns
@@ -18,5 +18,7 @@ returns c =
     (subst (λ names. ArePathSteps (map string_bytes names) c.syntax-root.result c.in_ok-steps.steps.items) c.deref.ensures.value c.in_ok-steps.ensures)
     c.accept.result c.in_ok-outcome.outcome
     (subst (λ steps. IsOutcome update (map string_bytes path.names.items) path.text.now path.starts.items steps c.args.text.now c.syntax-root.result
-    c.in_ok-outcome.outcome) c.deref-2.ensures.value c.in_ok-outcome.ensures)
-    c.accept.ensures
+    c.in_ok-outcome.outcome) c.deref-2.ensures.value c.in_ok-outcome.ensures.made)
+    (subst (λ steps. IfNone (IsAttributeRefused update (map string_bytes path.names.items) path.text.now path.starts.items steps c.args.text.now
+    c.syntax-root.result) c.in_ok-outcome.outcome) c.deref-2.ensures.value c.in_ok-outcome.ensures.refused)
+    c.accept.ensures.made c.accept.ensures.refused
