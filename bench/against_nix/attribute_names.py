@@ -78,10 +78,15 @@ class JsonNames(Json):
         return verdicts
 
 
+def is_in_pieces(name):
+    """Whether a name is a string in two quotes with a `$`: Nix takes some of these for one piece, docs/nix.md says which, and here they count as computed."""
+    return "$" in name.partition("''")[2]
+
+
 def have_computed(programs, folder, texts):
-    """For each text, whether Nix computes one of its names: it takes no such name in a `let`."""
+    """For each text, whether Nix computes one of its names, since it takes no such name in a `let`, or one counts as computed here."""
     written = [{name.text for it in root.below() if it.kind == "NODE_ATTRPATH" for name in it.nodes()} if root else {""} for root, _ in trees(programs, texts)]
     names = sorted(set().union(*written))
     values = evaluate(folder, [f"let {name} = 1; in 0" for name in names])
-    computed = {name for name, value in zip(names, values) if isinstance(value, Failure)}
+    computed = {name for name, value in zip(names, values) if isinstance(value, Failure) or is_in_pieces(name)}
     return [not names.isdisjoint(computed) for names in written]

@@ -19,6 +19,8 @@ class Maker(merged.Maker):
         self.names, self.order = NAMES, chance.sample(NAMES, len(NAMES))
         self.left = chance.choice([2, 4, 8])
         self.paths = []
+        # The path of the set that has `__overrides`.
+        self.overridden = None
         # Paths that are chosen often: of what is not there yet, but would be found by a `with` or is in another part of its set.
         self.likely = []
 
@@ -76,10 +78,11 @@ class Maker(merged.Maker):
     # Sets
 
     def braces(self, path, entries):
-        """A set that is written out, with `__overrides` in some that are `rec`."""
+        """A set that is written out, with `__overrides` in one that is `rec`, sometimes."""
         items = super().braces(path, entries)
-        if "rec" not in items[:3] or self.odds(0.85):
+        if "rec" not in items[:3] or self.overridden is not None or self.odds(0.85):
             return items
+        self.overridden = path
         name = self.chance.choice(NAMES[:3])
         self.paths += [[*path, "__overrides"], [*path, "__overrides", name]]
         own = [name, "=", *self.constant(name), ";"]
@@ -158,13 +161,21 @@ class Maker(merged.Maker):
             path[-1] = self.chance.choice(NAMES)
         if self.odds(0.1) or path[-1] in [*SETS, "__overrides"] and not is_removed:
             path.append(self.chance.choice(NAMES[:3]))
+        if not is_removed and "__overrides" in path and path in self.paths:
+            # A value that is set there is meant to change the attribute that it replaces.
+            path[-1] = self.chance.choice([it for it in NAMES[:3] if [*path[:-1], it] not in self.paths])
         return path
 
 
 class Parts(Update):
-    """The same of texts in which several parts make a set."""
+    """The same of texts in which several parts make a set. What an `__overrides` replaces that is there already is not looked at, as docs/DECISIONS.md says."""
 
     NAME = "update-parts"
+
+    @staticmethod
+    def seen(case, text):
+        """The text with another name for `__overrides`, unless this is what is changed."""
+        return text if "__overrides" in case.path else text.replace("__overrides", "over")
 
     @staticmethod
     def make(chance):

@@ -175,7 +175,12 @@ class Update:
         return Case(text, path=path, options=options, **given(options, ".".join(maker.spelled(name) for name in path), chance))
 
     @staticmethod
-    def judge(programs, folder, cases):
+    def seen(case, text):
+        """The text in whose place Nix evaluates another one."""
+        return text
+
+    @classmethod
+    def judge(cls, programs, folder, cases):
         found = programs.run_all("nix_update", [([*it.options, "--", *it.words], it.text) for it in cases])
         olds = [it.text for it in cases]
         news = [ran.out if ran.status == 0 else "1 +" for ran in found]
@@ -184,7 +189,7 @@ class Update:
         # As attributes, so that functions are not called.
         wanted = {raw: it["raw"] for raw, it in zip(kinds, evaluate(folder, [f"{{ raw = {raw}\n; }}" for raw in kinds]))}
         changing = [number for number, ran in enumerate(found) if ran.status == 0]
-        values = evaluate(folder, [olds[it] for it in changing] + [news[it] for it in changing])
+        values = evaluate(folder, [cls.seen(cases[it], text) for texts in (olds, news) for it in changing for text in [texts[it]]])
         verdicts = [failed(ran, "nix-update " + shlex.join([*it.options, "--", *it.words])) for it, ran in zip(cases, found)]
         for number, before, after in zip(changing, values, values[len(changing) :]):
             case, ran = cases[number], found[number]
@@ -276,23 +281,33 @@ def wrong_with(case, before, after, given):
     return ("another attribute changes" if is_set else "the attribute has another value") + (" by adding" if not has_old else " by setting")
 
 
-def leaves(value):
-    """What lists with "ref" refer to."""
-    if isinstance(value, dict):
-        for it in value.values():
-            yield from leaves(it)
-    elif isinstance(value, list) and len(value) == 2 and value[0] == "ref":
-        yield value[1]
+def parts_of(value):
+    """All values in a value, and the value itself: each may be what the name of a `let` has, or a part of that."""
+    yield value
+    for it in value.values() if isinstance(value, dict) else value if isinstance(value, list) else []:
+        yield from parts_of(it)
+
+
+def stands_for(before, after, renewed):
+    """Whether a value is another one in which some parts are renewed."""
+    if same(before, after) or any(same(before, old) and same(after, new) for old, new in renewed):
+        return True
+    if isinstance(before, dict) and isinstance(after, dict):
+        return before.keys() == after.keys() and all(stands_for(it, after[name], renewed) for name, it in before.items())
+    are_lists = isinstance(before, list) and isinstance(after, list) and len(before) == len(after)
+    return are_lists and all(stands_for(*them, renewed) for them in zip(before, after))
 
 
 def wrong_with_let(case, before, after, given):
     """What is wrong where no attribute has the path, and a name of a `let` is set, to which values may refer, also by a `with`."""
     if same(before, after):
         return None
-    for old in leaves(before):
-        is_around = len(case.path) > 1 and isinstance(old, dict)
-        below = case.path[1:]
-        renewed = [(old, with_value(old, below, given)), (inner(old, below)[0], given)] if is_around else [(old, given)]
-        if agrees(before, after, renewed) and (not isinstance(old, str) or old.startswith(case.path[-1] + "=")):
-            return None
+    for old in parts_of(before):
+        # The name of the `let`, or a set below it.
+        for at in range(1, len(case.path) + 1) if isinstance(old, dict) else [len(case.path)]:
+            below = case.path[at:]
+            renewed = [(old, with_value(old, below, given)), (inner(old, below)[0], given)] if below else [(old, given)]
+            is_own = not isinstance(old, str) or old.startswith(case.path[-1] + "=")
+            if is_own and (agrees(before, after, renewed) or stands_for(before, after, renewed)):
+                return None
     return "another attribute changes by setting a name of a let"
