@@ -75,7 +75,7 @@ SHAPES = {
     "semicolons": ("", ";", ""),
 }
 
-# Broken texts for nix_check, each with many errors.
+# Broken texts for `rnix check`, each with many errors.
 BROKEN = {
     # a comma in a list, and `=` for `==`, in each package
     "errors": ("{\n  ", PACKAGE.replace("hello-12 ]", "hello-12, 1 ]").replace("minor == 0", "minor = 0") + "\n  ", "}"),

@@ -60,7 +60,6 @@ class JsonNames(Json):
     """The same of such data. A name counts as computed only where it does for Nix."""
 
     NAME = "json-names"
-    PROGRAMS = ["nix_json", "nix_tree"]
 
     @staticmethod
     def make(chance):
@@ -69,12 +68,12 @@ class JsonNames(Json):
     @staticmethod
     def judge(programs, folder, cases):
         values = evaluate(folder, [it.text for it in cases])
-        found = programs.run_all("nix_json", [([], it.text) for it in cases])
+        found = programs.run_all("json", [([], it.text) for it in cases])
         verdicts = [Json.verdict(*them) for them in zip(cases, found, values)]
         refused = [it for it, ran in enumerate(found) if not verdicts[it] and "a computed name" in ran.said and not isinstance(values[it], Failure)]
         for number, has_computed in zip(refused, have_computed(programs, folder, [cases[it].text for it in refused])):
             if not has_computed:
-                verdicts[number] = Difference("a name counts as computed", "$ nix-json", f"{found[number]}", f"Nix says: {value_shown(values[number])}")
+                verdicts[number] = Difference("a name counts as computed", "$ rnix json", f"{found[number]}", f"Nix says: {value_shown(values[number])}")
         return verdicts
 
 

@@ -1,4 +1,4 @@
-"""The sorts on data: what nix-json prints of Nix texts, and the Nix that it makes of JSON."""
+"""The sorts on data: what rnix json prints of Nix texts, and the Nix that it makes of JSON."""
 import fractions
 import json
 import re
@@ -139,7 +139,7 @@ def alike(printed, value):
     return same(printed, value)
 
 
-# Why nix-json refuses what Nix evaluates, by docs/json.md.
+# Why rnix json refuses what Nix evaluates, by docs/json.md.
 MAY_REFUSE = re.compile(
     "(a call|`assert`|an operator|`__curPos`|a computed name|a name|`if`|`inherit`|an interpolation|a function|`let`|`rec`|a search path|a selection|`with`)"
     " is not data|a string cannot hold the character 0"
@@ -148,10 +148,9 @@ RETURN = "Nix reads this carriage return as a line feed"
 
 
 class Json:
-    """What nix-json prints of a text is its value, and it refuses only what has to be evaluated."""
+    """What rnix json prints of a text is its value, and it refuses only what has to be evaluated."""
 
     NAME = "json"
-    PROGRAMS = ["nix_json"]
 
     @staticmethod
     def make(chance):
@@ -161,13 +160,13 @@ class Json:
     @staticmethod
     def judge(programs, folder, cases):
         values = evaluate(folder, [it.text for it in cases])
-        found = programs.run_all("nix_json", [([], it.text) for it in cases])
+        found = programs.run_all("json", [([], it.text) for it in cases])
         return [Json.verdict(*them) for them in zip(cases, found, values)]
 
     @staticmethod
     def verdict(case, ran, value):
         words = Json.words(case, ran, value)
-        return Difference(words, "$ nix-json", *shown_text(ran.out), f"{ran}", f"Nix says: {value_shown(value)}") if words else None
+        return Difference(words, "$ rnix json", *shown_text(ran.out), f"{ran}", f"Nix says: {value_shown(value)}") if words else None
 
     @staticmethod
     def words(case, ran, value):
@@ -273,10 +272,9 @@ def loses_digits(text):
 
 
 class ToNix:
-    """The Nix that nix-json makes of JSON has the same data, and nix-json reads it back."""
+    """The Nix that rnix json makes of JSON has the same data, and rnix json reads it back."""
 
     NAME = "to-nix"
-    PROGRAMS = ["nix_json"]
 
     @staticmethod
     def make(chance):
@@ -285,8 +283,8 @@ class ToNix:
 
     @staticmethod
     def judge(programs, folder, cases):
-        there = programs.run_all("nix_json", [(["--to-nix"], it.text) for it in cases])
-        back = programs.run_all("nix_json", [([], ran.out if ran.status == 0 else "null") for ran in there])
+        there = programs.run_all("json", [(["--to-nix"], it.text) for it in cases])
+        back = programs.run_all("json", [([], ran.out if ran.status == 0 else "null") for ran in there])
         values = evaluate(folder, [ran.out if ran.status == 0 else "null" for ran in there])
         return [ToNix.verdict(*them) for them in zip(cases, there, back, values)]
 
@@ -295,7 +293,7 @@ class ToNix:
         words = ToNix.words(case, there, back, value)
         if not words:
             return None
-        return Difference(words, "$ nix-json --to-nix", *shown_text(there.out), f"{there}", f"Nix says: {value_shown(value)}", "and back:",
+        return Difference(words, "$ rnix json --to-nix", *shown_text(there.out), f"{there}", f"Nix says: {value_shown(value)}", "and back:",
                           *shown_text(back.out), f"{back}")
 
     @staticmethod
@@ -311,6 +309,6 @@ class ToNix:
         if not alike(data, value):
             return "Nix reads other data"
         try:
-            return None if alike(data_of(back.out), data) else "nix-json reads other data"
+            return None if alike(data_of(back.out), data) else "rnix json reads other data"
         except ValueError as error:
             return f"what is read back is no JSON: {error}"

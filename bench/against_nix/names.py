@@ -1,4 +1,4 @@
-"""The sort on names: to which binding each one refers by nix-names."""
+"""The sort on names: to which binding each one refers by rnix names."""
 import json
 
 from . import expressions, merged
@@ -14,11 +14,10 @@ AROUND_NAMES = ("NODE_IDENT_PARAM", "NODE_PAT_ENTRY", "NODE_PAT_BIND", "NODE_ATT
 
 
 class Names:
-    """What a name refers to, by nix-names, is what it refers to in Nix. Each binding gets another name beside its own, and what refers to it uses that one:
+    """What a name refers to, by rnix names, is what it refers to in Nix. Each binding gets another name beside its own, and what refers to it uses that one:
     the value stays. What refers to no binding gets a string instead: the value is that of the text with these names bound to the strings around it."""
 
     NAME = "names"
-    PROGRAMS = ["nix_names", "nix_tree"]
 
     @staticmethod
     def make(chance):
@@ -26,13 +25,13 @@ class Names:
 
     @staticmethod
     def judge(programs, folder, cases):
-        found = programs.run_all("nix_names", [(["--json"], it.text) for it in cases])
+        found = programs.run_all("names", [(["--json"], it.text) for it in cases])
         read = [Said(root, case.text, ran) if ran.status == 0 and root and not errors else None
                 for case, ran, (root, errors) in zip(cases, found, trees(programs, [it.text for it in cases]))]
         texts = [text for said in read if said for text in said.texts]
         values = iter(evaluate(folder, texts))
         known = known_names(folder, {name for said in read if said for name in said.free})
-        verdicts = [failed(ran, "nix-names --json") for ran in found]
+        verdicts = [failed(ran, "rnix names --json") for ran in found]
         for number, said in enumerate(read):
             if said:
                 verdicts[number] = said.verdict([next(values) for _ in said.texts], known)
@@ -47,7 +46,7 @@ def known_names(folder, names):
 
 
 class Said:
-    """What nix-names says of a text, and the texts that show whether it is so."""
+    """What rnix names says of a text, and the texts that show whether it is so."""
 
     def __init__(self, root, text, ran):
         lines = [json.loads(line) for line in ran.out.split("\n") if line]
@@ -103,13 +102,13 @@ class Said:
     def verdict(self, values, known):
         for it in self.references:
             if not it["binding"] and it["with"] == (it["name"] in known) and not isinstance(values[0], Failure):
-                words = "a name of Nix comes from a with, by nix-names" if it["with"] else "a name is not bound, by nix-names"
-                return Difference(words, "$ nix-names --json", json.dumps(it), f"Nix says of the text: {value_shown(values[0])}")
+                words = "a name of Nix comes from a with, by rnix names" if it["with"] else "a name is not bound, by rnix names"
+                return Difference(words, "$ rnix names --json", json.dumps(it), f"Nix says of the text: {value_shown(values[0])}")
         for number in (0, 2):
             before, after = values[number], without_other(values[number + 1])
             if not isinstance(before, Failure) and not same(before, after) and not is_argument(after):
                 words = value_words(before, after) + (" where free names are strings" if number else "")
-                return Difference(words, "$ nix-names", *self.shown(), "with other names:", *shown_text(self.texts[number + 1]),
+                return Difference(words, "$ rnix names", *self.shown(), "with other names:", *shown_text(self.texts[number + 1]),
                                   f"Nix says of the text: {value_shown(before)}", f"with other names: {value_shown(after)}")
         return None
 

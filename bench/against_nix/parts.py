@@ -1,4 +1,4 @@
-"""The sort of texts that nix-update changes in which sets have several parts, entries or operands of `//`, and names may come from them: by `__overrides`, or
+"""The sort of texts that rnix update changes in which sets have several parts, entries or operands of `//`, and names may come from them: by `__overrides`, or
 by a `with`."""
 from . import merged
 from .programs import Case

@@ -1,4 +1,4 @@
-"""The programs, as the repository builds them, and what a run of one is compared by."""
+"""The commands of the program, as the repository builds it, and what a run of one is compared by."""
 import pathlib
 import re
 
@@ -6,25 +6,19 @@ from .evaluate import run, side_by_side
 
 
 class Programs:
-    """The built programs of a checkout."""
+    """The built program of a checkout, with its commands."""
 
     def __init__(self, top):
-        self.top = pathlib.Path(top).resolve()
+        self.path = pathlib.Path(top).resolve() / "crates/rnix_command/out/rnix_command"
 
-    def path(self, name):
-        return self.top / "crates" / name / "out" / name
-
-    def missing(self, names):
-        return [str(self.path(name)) for name in names if not self.path(name).is_file()]
-
-    def run(self, name, arguments, text):
-        """A run over a text on standard input: the status, what it printed, and what it said."""
-        done = run([str(self.path(name)), *arguments], input=text.encode())
+    def run(self, command, arguments, text):
+        """A run of a command over a text on standard input: the status, what it printed, and what it said."""
+        done = run([str(self.path), command, *arguments], input=text.encode())
         return Ran(done.returncode, done.stdout.decode("utf-8", "replace"), done.stderr.decode("utf-8", "replace"))
 
-    def run_all(self, name, cases):
+    def run_all(self, command, cases):
         """Runs over many texts, each given with its arguments."""
-        return side_by_side(lambda case: self.run(name, *case), cases)
+        return side_by_side(lambda case: self.run(command, *case), cases)
 
 
 class Ran:

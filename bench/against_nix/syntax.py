@@ -1,4 +1,4 @@
-"""The sort of texts that may be no Nix: nix-check and Nix accept the same, but for what docs/nix.md lists."""
+"""The sort of texts that may be no Nix: rnix check and Nix accept the same, but for what docs/nix.md lists."""
 import re
 
 from . import expressions
@@ -138,7 +138,6 @@ def broken(chance):
 
 class Check:
     NAME = "check"
-    PROGRAMS = ["nix_check", "nix_tree"]
 
     @staticmethod
     def make(chance):
@@ -146,7 +145,7 @@ class Check:
 
     @staticmethod
     def judge(programs, folder, cases):
-        found = programs.run_all("nix_check", [(["--json"], it.text) for it in cases])
+        found = programs.run_all("check", [(["--json"], it.text) for it in cases])
         said = parse(folder, [it.text for it in cases])
         verdicts = [None] * len(cases)
         differing = [it for it, (ran, failure) in enumerate(zip(found, said)) if ran.status > 1 or (ran.status == 0) != (failure is None)]
@@ -154,7 +153,7 @@ class Check:
             text, ran, failure = cases[number].text, found[number], said[number]
             words = f"status {ran.status}" if ran.status > 1 else wrong_with(text, root, errors, failure)
             if words:
-                verdicts[number] = Difference(words, "$ nix-check", f"{ran}", *ran.out.strip().split("\n")[:1],
+                verdicts[number] = Difference(words, "$ rnix check", f"{ran}", *ran.out.strip().split("\n")[:1],
                                               f"Nix says: {'accepted' if failure is None else value_shown(failure)}")
         return verdicts
 
@@ -162,7 +161,7 @@ class Check:
 def wrong_with(text, root, errors, failure):
     """In a few words, how the verdicts differ, or nothing if docs/nix.md lists it."""
     if failure is None and not errors:
-        return "Nix accepts what nix-check reports beyond the grammar"
+        return "Nix accepts what rnix check reports beyond the grammar"
     if failure is None:
         return None if any(it(text, root, errors[0]) for it in ACCEPTED_BY_NIX) else "Nix accepts it: " + re.sub(r" at \d.*", "", errors[0]["message"])[:60]
     if any(re.search(it, failure.said) for it in BEYOND_GRAMMAR) or any(it(node) for it in REFUSED_BY_NIX for node in [root, *root.below()]):

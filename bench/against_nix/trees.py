@@ -43,5 +43,5 @@ def tree_of(printed, text):
 
 def trees(programs, texts):
     """The trees of texts with their errors, or nothing where there is no tree."""
-    found = programs.run_all("nix_tree", [(["--json"], text) for text in texts])
+    found = programs.run_all("tree", [(["--json"], text) for text in texts])
     return [tree_of(ran.out, text.encode()) if ran.status < 2 else (None, None) for ran, text in zip(found, texts)]

@@ -1,4 +1,4 @@
-"""The sort of texts that nix-update changes: exactly one attribute has another value, is added or is gone."""
+"""The sort of texts that rnix update changes: exactly one attribute has another value, is added or is gone."""
 import shlex
 
 from .evaluate import Failure, evaluate, same
@@ -14,7 +14,7 @@ RAW = ["1", "null", "[ 1 2 ]", "{ x = 1; }", "rec { x = 1; y = x; }", '"s"', "-1
        "if 1 == 1 then 1 else 2",
        "1 # c", "1 /* c */", "\n1\n", "1.5", "[ ]", "{ }", "{ x.y = 1; }", "with { q = 1; }; q", "assert 1 == 1; 2", "1 == 1", "{ x = 1; }.x or 2",
        "let { body = 1; }", "https://a.b/c"]
-# Sets that are made by calls: one with a name that nothing else has, and an empty one. nix-update does not know what a call, an operator or a function makes
+# Sets that are made by calls: one with a name that nothing else has, and an empty one. rnix update does not know what a call, an operator or a function makes
 # of a set that is written out, so no such set stands where its attributes could be lost.
 MORE = ["(", "q", ":", "q", ")", "{", "other", "=", "1", ";", "}"]
 EMPTY = ["(", "builtins.listToAttrs", "[", "]", ")"]
@@ -153,7 +153,7 @@ def options_of(chance):
 
 
 def given(options, path, chance):
-    """The words of nix-update for a path as it is written, and the value that the attribute gets."""
+    """The words of rnix update for a path as it is written, and the value that the attribute gets."""
     if "--remove" in options:
         return {"words": [path], "value": None}
     if "--list" in options:
@@ -165,7 +165,6 @@ def given(options, path, chance):
 
 class Update:
     NAME = "update"
-    PROGRAMS = ["nix_update"]
 
     @staticmethod
     def make(chance):
@@ -181,7 +180,7 @@ class Update:
 
     @classmethod
     def judge(cls, programs, folder, cases):
-        found = programs.run_all("nix_update", [([*it.options, "--", *it.words], it.text) for it in cases])
+        found = programs.run_all("update", [([*it.options, "--", *it.words], it.text) for it in cases])
         olds = [it.text for it in cases]
         news = [ran.out if ran.status == 0 else "1 +" for ran in found]
         raws = [it.value if "--raw" in it.options and ran.status == 0 else "null" for it, ran in zip(cases, found)]
@@ -190,14 +189,14 @@ class Update:
         wanted = {raw: it["raw"] for raw, it in zip(kinds, evaluate(folder, [f"{{ raw = {raw}\n; }}" for raw in kinds]))}
         changing = [number for number, ran in enumerate(found) if ran.status == 0]
         values = evaluate(folder, [cls.seen(cases[it], text) for texts in (olds, news) for it in changing for text in [texts[it]]])
-        verdicts = [failed(ran, "nix-update " + shlex.join([*it.options, "--", *it.words])) for it, ran in zip(cases, found)]
+        verdicts = [failed(ran, "rnix update " + shlex.join([*it.options, "--", *it.words])) for it, ran in zip(cases, found)]
         for number, before, after in zip(changing, values, values[len(changing) :]):
             case, ran = cases[number], found[number]
             given = given_value(case, wanted[raws[number]])
             wrong = wrong_with_let if SETS_LET in ran.said else wrong_with
             words = None if isinstance(before, Failure) else wrong(case, before, after, given)
             if words:
-                lines = ["$ nix-update " + shlex.join([*case.options, "--", *case.words]), *shown_text(ran.out)]
+                lines = ["$ rnix update " + shlex.join([*case.options, "--", *case.words]), *shown_text(ran.out)]
                 verdicts[number] = Difference(words, *lines, f"Nix says of the text: {value_shown(before)}", f"of the new text: {value_shown(after)}")
         return verdicts
 
@@ -218,7 +217,7 @@ def inner(value, path):
     return value, True
 
 
-# What nix-update says where it finds no attribute, and sets a name of a `let`.
+# What rnix update says where it finds no attribute, and sets a name of a `let`.
 SETS_LET = "this name of a `let` is set"
 # What there is no value for.
 MISSING = object()

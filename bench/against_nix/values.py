@@ -39,10 +39,9 @@ def value_words(before, after):
 
 
 class Format:
-    """Texts that nix-format changes keep their values, and are then in its style."""
+    """Texts that rnix format changes keep their values, and are then in its style."""
 
     NAME = "format"
-    PROGRAMS = ["nix_format"]
 
     @staticmethod
     def make(chance):
@@ -53,8 +52,8 @@ class Format:
 
     @staticmethod
     def judge(programs, folder, cases):
-        once = programs.run_all("nix_format", [([], it.text) for it in cases])
-        twice = programs.run_all("nix_format", [([], ran.out) for ran in once])
+        once = programs.run_all("format", [([], it.text) for it in cases])
+        twice = programs.run_all("format", [([], ran.out) for ran in once])
         values = compared(folder, [(it.text, ran.out if ran.status == 0 else None) for it, ran in zip(cases, once)])
         refused = [it for it, ran in enumerate(once) if ran.status]
         said = dict(zip(refused, evaluate(folder, [cases[it].text for it in refused])))
@@ -64,19 +63,18 @@ class Format:
     def verdict(case, once, twice, values, said):
         if once.status:
             is_refused = isinstance(said, Failure) or READ_OTHERWISE.search(case.text)
-            return None if is_refused else Difference("nix-format refuses it", "$ nix-format", f"{once}", f"Nix says: {value_shown(said)}")
+            return None if is_refused else Difference("rnix format refuses it", "$ rnix format", f"{once}", f"Nix says: {value_shown(said)}")
         if values:
-            return changed(value_words(*values), "nix-format", once, once.out, *values)
+            return changed(value_words(*values), "rnix format", once, once.out, *values)
         if twice.status or twice.out != once.out:
-            return Difference("formatting again changes it", "$ nix-format | nix-format", *shown_text(once.out), "and then", *shown_text(twice.out), f"{twice}")
+            return Difference("formatting again changes it", "$ rnix format | rnix format", *shown_text(once.out), "and then", *shown_text(twice.out), f"{twice}")
         return None
 
 
 class Rename:
-    """A name that nix-rename renames has no influence on the value."""
+    """A name that rnix rename renames has no influence on the value."""
 
     NAME = "rename"
-    PROGRAMS = ["nix_rename"]
     NEW_NAMES = NEW_NAMES
     TEXT = staticmethod(expressions.text)
 
@@ -101,9 +99,9 @@ class Rename:
         for case in cases:
             before, mark, after = case.text.partition(Rename.MARK)
             runs.append((["-", str(len(before.encode())) if mark else "none", case.name], before + after))
-        found = programs.run_all("nix_rename", runs)
+        found = programs.run_all("rename", runs)
         values = compared(folder, [(text, ran.out if ran.status == 0 else None) for (_, text), ran in zip(runs, found)])
-        return [Rename.verdict("nix-rename " + " ".join(args), ran, it) for (args, _), ran, it in zip(runs, found, values)]
+        return [Rename.verdict("rnix rename " + " ".join(args), ran, it) for (args, _), ran, it in zip(runs, found, values)]
 
     @staticmethod
     def verdict(command, ran, values):
@@ -124,10 +122,9 @@ class MergedRename(Rename):
 
 
 class Dead:
-    """What nix-dead reports can be removed."""
+    """What rnix dead reports can be removed."""
 
     NAME = "dead"
-    PROGRAMS = ["nix_dead", "nix_tree"]
     TEXT = staticmethod(expressions.text)
 
     @classmethod
@@ -136,13 +133,13 @@ class Dead:
 
     @staticmethod
     def judge(programs, folder, cases):
-        found = programs.run_all("nix_dead", [(["--json"], it.text) for it in cases])
+        found = programs.run_all("dead", [(["--json"], it.text) for it in cases])
         pairs = []
         for case, ran, (root, errors) in zip(cases, found, trees(programs, [it.text for it in cases])):
             names = [json.loads(line) for line in ran.out.split("\n") if line] if ran.status == 1 else []
             pairs.append((case.text, without(root, case.text, names) if names and not errors else None))
         values = compared(folder, pairs)
-        return [Dead.verdict("nix-dead --json", ran, new, it) for (_, new), ran, it in zip(pairs, found, values)]
+        return [Dead.verdict("rnix dead --json", ran, new, it) for (_, new), ran, it in zip(pairs, found, values)]
 
     @staticmethod
     def verdict(command, ran, new, values):

@@ -1,4 +1,4 @@
-"""Texts with other white space, in the style of Nixpkgs, as `nix-format` writes them."""
+"""Texts with other white space, in the style of Nixpkgs, as `rnix format` writes them."""
 
 from __future__ import annotations
 

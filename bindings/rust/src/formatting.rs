@@ -1,4 +1,4 @@
-//! Texts with other white space, in the style of Nixpkgs, as `nix-format` writes them.
+//! Texts with other white space, in the style of Nixpkgs, as `rnix format` writes them.
 //!
 //! ```
 //! assert_eq!(rnix::formatting::formatted("{a=1;}").unwrap(), "{ a = 1; }\n");

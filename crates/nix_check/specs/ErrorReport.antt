@@ -36,7 +36,7 @@ AreChecked style texts failed old files new after = AreTallied (IsFileCounted st
 abbrev pub report_head : Format → List ℕ
 report_head form.Text = []
 report_head form.Json = []
-report_head form.Sarif = sarif_head (codes "nix-check") VERSION.now
+report_head form.Sarif = sarif_head (codes "rnix") VERSION.now
 
 -- the last line of the text form: the number of errors; there is none if no errors were found and some files could not be read
 abbrev pub count_line : Tally → List ℕ

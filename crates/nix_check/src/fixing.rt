@@ -6,8 +6,8 @@ ghost use Rattle.nix_fixes.specs.AllFixes.{IsFixedUpTo};
 ghost use Rattle.nix_check.specs.Tallies.{AreTallied};
 ghost use Rattle.nix_check.specs.Fixing.{fixes_line, remaining_line, IsTextFixed, IsFileFixed, AreFixed};
 
-use crate::PROGRAM;
 use crate::check::check_text;
+use crate::command::COMMAND;
 use crate::style::Style;
 use crate::tally::Tally;
 use nix_cli::{Files, TextReader, display_name, replace_text};
@@ -32,7 +32,7 @@ fn write_fixed(rt: &HostRuntime, name: &str, made: &FixedText) -> io::Result<boo
     match replace_text(rt, name, made.text.as_str()) {
         Ok(()) => Ok(true),
         Err(error) => {
-            eprintln!(rt; "{}: {name}: {error}", PROGRAM.name)?;
+            eprintln!(rt; "{}: {name}: {error}", COMMAND.name)?;
             Ok(false)
         }
     }
@@ -78,7 +78,7 @@ fn fix_file<R: TextReader, W: Write>(
 ) -> io::Result<Tally>
     ensures { IfOk result (IsFileFixed style (R.texts reader.now) name.now tally (W.contents out.old) (W.contents out.new)) }
 {
-    let Some(text) = reader.read_text(rt, &PROGRAM, name, out)? else {
+    let Some(text) = reader.read_text(rt, &COMMAND, name, out)? else {
         return Ok(tally.with_unread());
     };
     let made = fixed(rt.alloc(), text.as_str(), MAX_TRIED)?;

@@ -4,8 +4,8 @@ ghost use Rattle.std.specs.Prelude.{◌≡◌, map, string_bytes, IfOk, OnOk};
 ghost use Rattle.std.specs.Io.KnownBytes.{Appends};
 ghost use Rattle.nix_check.specs.ErrorReport.{count_line, report_head, report_tail, IsTextCounted, IsFileCounted, AreChecked, IsReport};
 
-use crate::PROGRAM;
 use crate::check::check_text;
+use crate::command::COMMAND;
 use crate::sarif::{write_head, write_tail};
 use crate::style::{Format, Style};
 use crate::tally::Tally;
@@ -39,7 +39,7 @@ fn check_file<R: TextReader, W: Write>(
 ) -> io::Result<Tally>
     ensures { IfOk result (IsFileCounted style (R.texts reader.now) name.now tally (W.contents out.old) (W.contents out.new)) }
 {
-    match reader.read_text(rt, &PROGRAM, name, out)? {
+    match reader.read_text(rt, &COMMAND, name, out)? {
         Some(text) => count_text(
             rt.alloc(),
             display_name(name),
@@ -104,7 +104,7 @@ fn write_start<W: Write>(format: Format, out: &mut W) -> io::Result<()>
 {
     match format {
         Format::Text | Format::Json => Ok(()),
-        Format::Sarif => write_head("nix-check", out),
+        Format::Sarif => write_head("rnix", out),
     }
 }
 

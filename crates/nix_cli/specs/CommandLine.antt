@@ -3,7 +3,7 @@ use Rattle.std.specs.Prelude.{ℕ, ◌<◌, ◌==◌, nat_lt, Bool, true, false,
 use Rattle.std.specs.Prelude.{Some, None, if◌then◌else◌}
 use Rattle.std.specs.List.{list_any}
 
--- what a program accepts: its options without a value, whether it has `--color`, and the largest number of arguments besides options
+-- what a command accepts: its options without a value, whether it has `--color`, and the largest number of arguments besides options
 pub record Options : Type 0 where
   pub flags : List (List ℕ)
   pub has_colors : Bool
@@ -70,15 +70,15 @@ with_words r = record { task = r.task; flags = r.flags; words = r.words; color =
 abbrev pub with_color_next : Parsed → Parsed
 with_color_next r = record { task = r.task; flags = r.flags; words = r.words; color = r.color; only_words = r.only_words; is_color_next = true }
 
--- the value in `--color=VALUE`, if the program has this option
+-- the value in `--color=VALUE`, if the command has this option
 abbrev pub color_in : Options → List ℕ → Option (List ℕ)
 color_in options option = if options.has_colors && begins (codes "--color=") option then Some (drop 8 option) else None
 
--- adds one of the program's options, or refuses an unknown one
+-- adds one of the command's options, or refuses an unknown one
 abbrev pub with_flag_in : Options → List ℕ → Parsed → Parsed
 with_flag_in options option r = if list_any (λ flag. bytes_eq flag option) options.flags then with_flag option r else with_task (refuses option) r
 
--- sets the value of `--color` if there is one; otherwise reads one of the program's options
+-- sets the value of `--color` if there is one; otherwise reads one of the command's options
 abbrev pub with_color_or : Option (List ℕ) → Options → List ℕ → Parsed → Parsed
 with_color_or (Some when) options option r = with_color when r
 with_color_or None options option r = with_flag_in options option r
@@ -91,7 +91,7 @@ with_option options option r =
     else (if options.has_colors && bytes_eq option (codes "--color") then with_color_next r
     else with_color_or (color_in options option) options option r))
 
--- reads an argument, if the task is still to run the program
+-- reads an argument, if the task is still to run the command
 abbrev pub with_argument : Options → List ℕ → Parsed → Parsed
 with_argument options argument r =
     if r.is_color_next then with_color argument r
@@ -99,7 +99,7 @@ with_argument options argument r =
     else (if nat_lt (length r.words) options.max_words then with_word argument r
     else with_task (refuses argument) r))
 
--- reads an argument, given the task so far; once the task is not to run the program, arguments are ignored
+-- reads an argument, given the task so far; once the task is not to run the command, arguments are ignored
 abbrev pub after_task : Task → Options → List ℕ → Parsed → Parsed
 after_task runs options argument r = with_argument options argument r
 after_task task options argument r = r

@@ -1,13 +1,13 @@
 -- The types of the program as the values of the definitions.
 use Rattle.std.specs.Prelude.{List, map, option_map, string_bytes}
 use Rattle.nix_cli.specs.CommandLine.{Options, Task, runs, helps, versions, refuses, Parsed}
-use Rattle.nix_cli.specs.declared.arguments.Program.{Program}
+use Rattle.nix_cli.specs.declared.arguments.Command.{Command}
 use Rattle.nix_cli.specs.declared.arguments.Arguments.{Arguments}
 use Rattle.nix_cli.specs.declared.arguments.Task.{Task as Doing}
 use Rattle.nix_cli.specs.declared.arguments.Task.TheVariants as doing
 
--- what a program accepts
-abbrev pub options_of : Program → Options
+-- what a command accepts
+abbrev pub options_of : Command → Options
 options_of p = record { flags = map (λ flag. flag.now) p.flags.now; has_colors = p.has_colors; max_words = p.max_words }
 
 -- the task

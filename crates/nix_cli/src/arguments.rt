@@ -10,26 +10,30 @@ use std::alloc::{AllocError, Global};
 use std::env;
 use std::io::{self, Write};
 
-/// The version that `--version` prints for every program.
+/// The version that `--version` prints for every command.
 pub const VERSION: &str = "1.0.0";
-// The options that every program has, as `--help` prints them.
+// The options that every command has, as `--help` prints them, and the one of those that take arguments.
 const COMMON: &str = "    --help     print this
     --version  print the version
-    --         end of the options: all that follows is taken as names
 ";
 
-/// A program's name, its help and its options.
+const END_OF_OPTIONS: &str = "    --         end of the options: all that follows is taken as names
+";
+
+/// A command's name, its help and its options.
 #[derive(Clone, Copy)]
-pub struct Program {
-    /// The name in messages.
+pub struct Command {
+    /// The name in messages, as it is called: `rnix check`.
     pub name: &'static str,
-    /// The part of the help before the options that every program has.
+    /// What may follow the name, in the words of the help: one line for each form.
+    pub usage: &'static [&'static str],
+    /// The part of the help between these lines and the options that every command has.
     pub help: &'static str,
     /// The part of the help after these options.
     pub statuses: &'static str,
     /// The options without a value.
     pub flags: &'static [&'static str],
-    /// Whether the program has the option `--color WHEN`.
+    /// Whether the command has the option `--color WHEN`.
     pub has_colors: bool,
     /// The smallest number of arguments besides options.
     pub min_words: usize,
@@ -61,7 +65,7 @@ pub struct Arguments {
     is_color_next: bool,
 }
 
-/// What a program does once its command line is parsed.
+/// What a command does once its command line is parsed.
 #[derive(Drop)]
 pub enum Start {
     /// Run with these arguments.
@@ -89,11 +93,11 @@ fn is_option(text: &str) -> bool
     text.len() > 1 && text.starts_with('-')
 }
 
-// Returns the value in `--color=VALUE`, if the program has this option.
-fn color_in<'a>(program: &Program, option: &'a str) -> Option<&'a str>
-    ensures { option_map (λ when. when.now) result ≡ color_in (options_of program.now) option.now }
+// Returns the value in `--color=VALUE`, if the command has this option.
+fn color_in<'a>(command: &Command, option: &'a str) -> Option<&'a str>
+    ensures { option_map (λ when. when.now) result ≡ color_in (options_of command.now) option.now }
 {
-    if !program.has_colors {
+    if !command.has_colors {
         return None;
     }
     option.strip_prefix("--color=")
@@ -140,8 +144,8 @@ impl Arguments {
     }
 
     // Reads an option.
-    fn add_option(&mut self, program: &Program, option: String) -> Result<(), AllocError>
-        ensures { OnOk result (parsed_of self.new ≡ with_option (options_of program.now) (string_bytes option) (parsed_of self.old)) }
+    fn add_option(&mut self, command: &Command, option: String) -> Result<(), AllocError>
+        ensures { OnOk result (parsed_of self.new ≡ with_option (options_of command.now) (string_bytes option) (parsed_of self.old)) }
     {
         let text = option.as_str();
         if text == "--help" || text == "-h" {
@@ -152,23 +156,23 @@ impl Arguments {
             self.task = Task::Version;
             return Ok(());
         }
-        if program.has_colors && text == "--color" {
+        if command.has_colors && text == "--color" {
             self.is_color_next = true;
             return Ok(());
         }
-        if let Some(when) = color_in(program, text) {
+        if let Some(when) = color_in(command, text) {
             let when = String::from_str(*self.words.allocator(), when)?;
             self.set_color(when);
             return Ok(());
         }
-        self.add_flag(program, option)
+        self.add_flag(command, option)
     }
 
-    // Adds one of the program's options, or refuses one that is unknown.
-    fn add_flag(&mut self, program: &Program, option: String) -> Result<(), AllocError>
-        ensures { OnOk result (parsed_of self.new ≡ with_flag_in (options_of program.now) (string_bytes option) (parsed_of self.old)) }
+    // Adds one of the command's options, or refuses one that is unknown.
+    fn add_flag(&mut self, command: &Command, option: String) -> Result<(), AllocError>
+        ensures { OnOk result (parsed_of self.new ≡ with_flag_in (options_of command.now) (string_bytes option) (parsed_of self.old)) }
     {
-        if is_among(program.flags, option.as_str()) {
+        if is_among(command.flags, option.as_str()) {
             self.flags.push(option)?;
             return Ok(());
         }
@@ -177,8 +181,8 @@ impl Arguments {
     }
 
     // Reads the next argument while the task is to run.
-    fn add_argument(&mut self, program: &Program, argument: String) -> Result<(), AllocError>
-        ensures { OnOk result (parsed_of self.new ≡ with_argument (options_of program.now) (string_bytes argument) (parsed_of self.old)) }
+    fn add_argument(&mut self, command: &Command, argument: String) -> Result<(), AllocError>
+        ensures { OnOk result (parsed_of self.new ≡ with_argument (options_of command.now) (string_bytes argument) (parsed_of self.old)) }
     {
         if self.is_color_next {
             self.set_color(argument);
@@ -189,9 +193,9 @@ impl Arguments {
                 self.only_words = true;
                 return Ok(());
             }
-            return self.add_option(program, argument);
+            return self.add_option(command, argument);
         }
-        if self.words.len() < program.max_words {
+        if self.words.len() < command.max_words {
             self.words.push(argument)?;
             return Ok(());
         }
@@ -199,89 +203,95 @@ impl Arguments {
         Ok(())
     }
 
-    // Returns whether the task is to run, with all the words that the program needs.
-    fn may_run(&self, program: &Program) -> bool {
+    // Returns whether the task is to run, with all the words that the command needs.
+    fn may_run(&self, command: &Command) -> bool {
         match self.task {
-            Task::Run => !self.is_color_next && self.words.len() >= program.min_words,
+            Task::Run => !self.is_color_next && self.words.len() >= command.min_words,
             Task::Help | Task::Version | Task::Refuse(..) => false,
         }
     }
 
     // Reads the next argument, or ignores it once the task is another one.
-    fn add(&mut self, program: &Program, argument: String) -> Result<(), AllocError>
-        ensures { OnOk result (parsed_of self.new ≡ and_argument (options_of program.now) (string_bytes argument) (parsed_of self.old)) }
+    fn add(&mut self, command: &Command, argument: String) -> Result<(), AllocError>
+        ensures { OnOk result (parsed_of self.new ≡ and_argument (options_of command.now) (string_bytes argument) (parsed_of self.old)) }
     {
         match self.task {
-            Task::Run => self.add_argument(program, argument),
+            Task::Run => self.add_argument(command, argument),
             Task::Help | Task::Version | Task::Refuse(..) => Ok(()),
         }
     }
 }
 
-/// Parses the arguments of a program.
+/// Parses the arguments of a command.
 pub fn parse_arguments(
     alloc: Global,
-    program: &Program,
+    command: &Command,
     arguments: &[String],
 ) -> Result<Arguments, AllocError>
-    ensures { IfOk result (λ given. parsed_of given ≡ parse_from (options_of program.now) nothing (map string_bytes arguments.now)) }
+    ensures { IfOk result (λ given. parsed_of given ≡ parse_from (options_of command.now) nothing (map string_bytes arguments.now)) }
 {
     let mut given = Arguments::new(alloc);
     for argument in arguments {
-        given.add(program, argument.clone()?)?;
+        given.add(command, argument.clone()?)?;
     }
     Ok(given)
 }
 
 // Prints the help.
-fn help(rt: &HostRuntime, program: &Program) -> io::Result<()> {
+fn help(rt: &HostRuntime, command: &Command) -> io::Result<()> {
     let mut out = rt.stdout();
-    out.write_all(program.help.as_bytes())?;
+    for form in command.usage {
+        writeln!(out, "{} {form}", command.name)?;
+    }
+    out.write_all(command.help.as_bytes())?;
     out.write_all(COMMON.as_bytes())?;
-    out.write_all(program.statuses.as_bytes())
+    if command.max_words > 0 {
+        out.write_all(END_OF_OPTIONS.as_bytes())?;
+    }
+    out.write_all(command.statuses.as_bytes())
 }
 
-// Prints the program's name and version.
-fn version(rt: &HostRuntime, program: &Program) -> io::Result<()> {
-    writeln!(rt.stdout(), "{} {VERSION}", program.name)
+// Prints the command's name and version.
+fn version(rt: &HostRuntime, command: &Command) -> io::Result<()> {
+    writeln!(rt.stdout(), "{} {VERSION}", command.name)
 }
 
 // Reports why the command line is refused.
-fn refuse_arguments(rt: &HostRuntime, program: &Program, given: &Arguments) -> io::Result<()> {
+fn refuse_arguments(rt: &HostRuntime, command: &Command, given: &Arguments) -> io::Result<()> {
     match &given.task {
-        Task::Refuse(reason, argument) => { eprintln!(rt; "{}: {reason} {argument}", program.name) }
-        _ if given.is_color_next => refuse(rt, program, "--color needs a value"),
-        _ => refuse(rt, program, "missing argument"),
+        Task::Refuse(reason, argument) => { eprintln!(rt; "{}: {reason} {argument}", command.name) }
+        _ if given.is_color_next => refuse(rt, command, "--color needs a value"),
+        _ => refuse(rt, command, "missing argument"),
     }
 }
 
-// Ends a program that is not to run: prints the help or the version, or reports what is wrong. Returns the status.
-fn answer(rt: &HostRuntime, program: &Program, given: &Arguments) -> io::Result<u8> {
+// Ends a command that is not to run: prints the help or the version, or reports what is wrong. Returns the status.
+fn answer(rt: &HostRuntime, command: &Command, given: &Arguments) -> io::Result<u8> {
     match given.task {
-        Task::Help => help(rt, program).map(|()| 0),
-        Task::Version => version(rt, program).map(|()| 0),
+        Task::Help => help(rt, command).map(|()| 0),
+        Task::Version => version(rt, command).map(|()| 0),
         Task::Run | Task::Refuse(..) => {
-            refuse_arguments(rt, program, given)?;
-            eprintln!(rt; "see {} --help", program.name)?;
+            refuse_arguments(rt, command, given)?;
+            eprintln!(rt; "see {} --help", command.name)?;
             Ok(FAILED)
         }
     }
 }
 
-// Parses the command line of the process.
-fn parsed(rt: &HostRuntime, program: &Program) -> io::Result<Arguments> {
+/// Returns the arguments of the process, without the name that it was called by.
+pub fn process_arguments(rt: &HostRuntime) -> io::Result<Vec<String>> {
     let mut arguments = Vec::new(rt.alloc());
     for argument in env::args(rt)?.skip(1) {
         arguments.push(argument)?;
     }
-    Ok(parse_arguments(rt.alloc(), program, &arguments)?)
+    Ok(arguments)
 }
 
-/// Parses the command line of the process. Prints the help or the version, or reports on standard error what is wrong.
-pub fn read_arguments(rt: &HostRuntime, program: &Program) -> Start {
-    match parsed(rt, program) {
-        Ok(given) if given.may_run(program) => Start::Run(given),
-        Ok(given) => Start::End(answer(rt, program, &given)),
-        Err(error) => Start::End(Err(error)),
+/// Parses the arguments of a command. Prints the help or the version, or reports on standard error what is wrong.
+pub fn read_arguments(rt: &HostRuntime, command: &Command, arguments: &[String]) -> Start {
+    match parse_arguments(rt.alloc(), command, arguments) {
+        Ok(given) if given.may_run(command) => Start::Run(given),
+        Ok(given) => Start::End(answer(rt, command, &given)),
+        Err(error) => Start::End(Err(io::Error::from(error))),
     }
 }

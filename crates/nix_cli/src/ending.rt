@@ -4,7 +4,7 @@ ghost use Rattle.std.specs.Prelude.{◌≡◌};
 ghost use Rattle.std.specs.Io.KnownBytes.{Keeps};
 ghost use Rattle.nix_cli.specs.Statuses.{file_status};
 
-use crate::arguments::Program;
+use crate::arguments::Command;
 use std::io::{self, Write};
 use std::process::ExitCode;
 
@@ -21,14 +21,14 @@ pub fn file_status(is_good: bool) -> u8
 }
 
 /// Reports on standard error why something was refused.
-pub fn refuse(rt: &HostRuntime, program: &Program, reason: &str) -> io::Result<()> {
-    eprintln!(rt; "{}: {reason}", program.name)
+pub fn refuse(rt: &HostRuntime, command: &Command, reason: &str) -> io::Result<()> {
+    eprintln!(rt; "{}: {reason}", command.name)
 }
 
 /// Flushes `out`, and then reports on standard error what is wrong at a line and column of a file. The message is written even if the flush fails.
 pub fn refuse_after_output<W: Write>(
     rt: &HostRuntime,
-    program: &Program,
+    command: &Command,
     file: &str,
     location: (usize, usize),
     reason: &str,
@@ -38,17 +38,17 @@ pub fn refuse_after_output<W: Write>(
 {
     let flushed = out.flush();
     let (line, column) = location;
-    eprintln!(rt; "{}: {file}:{line}:{column}: {reason}", program.name)?;
+    eprintln!(rt; "{}: {file}:{line}:{column}: {reason}", command.name)?;
     flushed
 }
 
-/// Returns the exit code of a program: its status, or [`FAILED`] after an error, which is reported on standard error.
-pub fn end(rt: &HostRuntime, program: &Program, outcome: io::Result<u8>) -> ExitCode {
+/// Returns the exit code of a command: its status, or [`FAILED`] after an error, which is reported on standard error.
+pub fn end(rt: &HostRuntime, command: &Command, outcome: io::Result<u8>) -> ExitCode {
     match outcome {
         Ok(status) => ExitCode::from(status),
         Err(error) => {
             // If writing this fails too, there is nothing else to do.
-            let _said = eprintln!(rt; "{}: {error}", program.name);
+            let _said = eprintln!(rt; "{}: {error}", command.name);
             ExitCode::from(FAILED)
         }
     }

@@ -4,7 +4,7 @@ ghost use Rattle.std.specs.Prelude.{◌≡◌};
 ghost use Rattle.nix_cli.specs.MessageLocations.{display_name};
 ghost use Rattle.nix_cli.specs.Statuses.{first_status};
 
-use crate::arguments::Program;
+use crate::arguments::Command;
 use crate::ending::FAILED;
 use crate::file_replacement::replace_text;
 use std::alloc::AllocError;
@@ -30,7 +30,7 @@ impl Files {
     }
 }
 
-/// The files that the arguments name, for a program that buffers its output.
+/// The files that the arguments name, for a command that buffers its output.
 #[derive(Drop)]
 pub struct Inputs {
     /// The files.
@@ -154,7 +154,7 @@ fn files_below(rt: &HostRuntime, folder: &str, links: Links) -> io::Result<Found
 // Adds the files in a folder and the folders in it, and reports what is skipped there. A folder that cannot be read is reported and counted.
 fn add_folder(
     rt: &HostRuntime,
-    program: &Program,
+    command: &Command,
     folder: &str,
     links: Links,
     inputs: &mut Inputs,
@@ -163,33 +163,33 @@ fn add_folder(
         Ok(below) => below,
         Err(error) => {
             inputs.files.failed = inputs.files.failed.saturating_add(1);
-            return eprintln!(rt; "{}: {folder}: {error}", program.name);
+            return eprintln!(rt; "{}: {folder}: {error}", command.name);
         }
     };
     inputs.files.names.extend(below.names)?;
     inputs.are_regular = inputs.are_regular && below.are_regular;
     for message in &below.skipped {
-        eprintln!(rt; "{}: {message}", program.name)?;
+        eprintln!(rt; "{}: {message}", command.name)?;
     }
     Ok(())
 }
 
-/// Returns the files that a program replaces: those of [`find_inputs`], except that symbolic links in folders are skipped and reported.
-pub fn find_files(rt: &HostRuntime, program: &Program, names: &[String]) -> io::Result<Files> {
-    Ok(inputs_of(rt, program, names, Links::Skipped)?.files)
+/// Returns the files that a command replaces: those of [`find_inputs`], except that symbolic links in folders are skipped and reported.
+pub fn find_files(rt: &HostRuntime, command: &Command, names: &[String]) -> io::Result<Files> {
+    Ok(inputs_of(rt, command, names, Links::Skipped)?.files)
 }
 
 /// Returns the files that the arguments name, for [`TextReader::read_text`]. `-` and no names mean standard input. A folder means the regular files in it, and
-/// in the folders in it, whose names end with `.nix`, and symbolic links with such names to regular files or to nothing; anything else with such a name is skipped
-/// and reported. Any other name is a file. A folder that cannot be read is reported and counted.
-pub fn find_inputs(rt: &HostRuntime, program: &Program, names: &[String]) -> io::Result<Inputs> {
-    inputs_of(rt, program, names, Links::Read)
+/// in the folders in it, whose names end with `.nix`, and symbolic links with such names to regular files or to nothing; anything else with such a name is
+/// skipped and reported. Any other name is a file. A folder that cannot be read is reported and counted.
+pub fn find_inputs(rt: &HostRuntime, command: &Command, names: &[String]) -> io::Result<Inputs> {
+    inputs_of(rt, command, names, Links::Read)
 }
 
 // Returns the files that the arguments name.
 fn inputs_of(
     rt: &HostRuntime,
-    program: &Program,
+    command: &Command,
     names: &[String],
     links: Links,
 ) -> io::Result<Inputs> {
@@ -207,7 +207,7 @@ fn inputs_of(
     for name in names {
         let kind = kind_of(rt, name.as_str());
         if kind == Kind::Folder {
-            add_folder(rt, program, name.as_str(), links, &mut inputs)?;
+            add_folder(rt, command, name.as_str(), links, &mut inputs)?;
         } else {
             inputs.files.names.push(name.clone()?)?;
             inputs.are_regular = inputs.are_regular && kind == Kind::Regular;
@@ -258,7 +258,7 @@ impl Inputs {
 /// replaced.
 pub fn write_text(
     rt: &HostRuntime,
-    program: &Program,
+    command: &Command,
     name: &str,
     text: &str,
     in_place: bool,
@@ -270,7 +270,7 @@ pub fn write_text(
     match replace_text(rt, name, text) {
         Ok(()) => Ok(0),
         Err(error) => {
-            eprintln!(rt; "{}: {name}: {error}", program.name)?;
+            eprintln!(rt; "{}: {name}: {error}", command.name)?;
             Ok(FAILED)
         }
     }

@@ -1,4 +1,4 @@
-//! What all programs of this repository share: options, files and folders, refusals, and exit statuses.
+//! What all commands share: options, files and folders, refusals, and exit statuses.
 #![tactic(auto)]
 
 mod arguments;
@@ -12,7 +12,9 @@ mod progress;
 mod reading;
 mod source;
 
-pub use arguments::{Arguments, Program, Start, VERSION, parse_arguments, read_arguments};
+pub use arguments::{
+    Arguments, Command, Start, VERSION, parse_arguments, process_arguments, read_arguments,
+};
 pub use colors::is_colored;
 pub use ending::{FAILED, FOUND, end, file_status, refuse, refuse_after_output};
 pub use excerpt::write_excerpt;

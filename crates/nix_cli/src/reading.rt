@@ -4,7 +4,7 @@ ghost use Rattle.std.specs.Prelude.{None, option_map, string_bytes, IfOk};
 ghost use Rattle.std.specs.Io.KnownBytes.{Keeps};
 ghost use Rattle.nix_cli.specs.KnownTexts.{KnownTexts, Agrees};
 
-use crate::arguments::Program;
+use crate::arguments::Command;
 use crate::files::{Files, Inputs, display_name, end_location};
 use std::io::{Read, Write};
 use std::{fmt, fs, io};
@@ -18,7 +18,7 @@ pub trait TextReader {
     fn read_text<W: Write>(
         &self,
         rt: &HostRuntime,
-        program: &Program,
+        command: &Command,
         name: &str,
         out: &mut W,
     ) -> io::Result<Option<String>>
@@ -71,11 +71,11 @@ fn text_of(rt: &HostRuntime, name: &str) -> Result<String, ReadError> {
 }
 
 /// Reads the text of a file, or of standard input for `-`. Returns None if it cannot be read or is not UTF-8, which is reported.
-pub fn read_text(rt: &HostRuntime, program: &Program, name: &str) -> io::Result<Option<String>> {
+pub fn read_text(rt: &HostRuntime, command: &Command, name: &str) -> io::Result<Option<String>> {
     match text_of(rt, name) {
         Ok(text) => Ok(Some(text)),
         Err(unread) => {
-            eprintln!(rt; "{}: {}{unread}", program.name, display_name(name))?;
+            eprintln!(rt; "{}: {}{unread}", command.name, display_name(name))?;
             Ok(None)
         }
     }
@@ -89,7 +89,7 @@ impl TextReader for Inputs {
     fn read_text<W: Write>(
         &self,
         rt: &HostRuntime,
-        program: &Program,
+        command: &Command,
         name: &str,
         out: &mut W,
     ) -> io::Result<Option<String>> {
@@ -100,7 +100,7 @@ impl TextReader for Inputs {
             Ok(text) => Ok(Some(text)),
             Err(unread) => {
                 let flushed = out.flush();
-                eprintln!(rt; "{}: {}{unread}", program.name, display_name(name))?;
+                eprintln!(rt; "{}: {}{unread}", command.name, display_name(name))?;
                 flushed?;
                 Ok(None)
             }
@@ -114,10 +114,10 @@ impl TextReader for Files {
     fn read_text<W: Write>(
         &self,
         rt: &HostRuntime,
-        program: &Program,
+        command: &Command,
         name: &str,
         _out: &mut W,
     ) -> io::Result<Option<String>> {
-        read_text(rt, program, name)
+        read_text(rt, command, name)
     }
 }

@@ -7,7 +7,7 @@ ghost use Rattle.nix_cli.specs.MessageLocations.{IsIndexed};
 ghost use Rattle.nix_cli.specs.Statuses.{first_status, AreProcessed};
 ghost use Rattle.nix_dead.specs.Report.{name_line, name_object, name_output, AreReported, IsReported, IsFileReported};
 
-use crate::PROGRAM;
+use crate::command::COMMAND;
 use crate::dead::{Name, dead_names};
 use nix_cli::{
     FAILED, FOUND, Files, Source, TextReader, display_name, location_of, refuse_after_output,
@@ -93,7 +93,7 @@ fn refuse_text<W: Write>(
 {
     let range = read.errors().first().and_then(|error| error.range());
     let location = location_of(text, range.map_or(text.len(), |range| range.start()));
-    refuse_after_output(rt, &PROGRAM, file, location, "this is not Nix", out)
+    refuse_after_output(rt, &COMMAND, file, location, "this is not Nix", out)
 }
 
 // Writes the unused names of a tree, and returns the exit status.
@@ -149,7 +149,7 @@ fn report_file<R: TextReader, W: Write>(
 ) -> io::Result<u8>
     ensures { IfOk result (IsFileReported is_json (R.texts reader.now) file.now (W.contents out.old) (W.contents out.new)) }
 {
-    match reader.read_text(rt, &PROGRAM, file, out)? {
+    match reader.read_text(rt, &COMMAND, file, out)? {
         Some(text) => report(rt, display_name(file), text.as_str(), is_json, out),
         None => Ok(FAILED),
     }

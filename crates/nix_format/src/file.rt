@@ -5,7 +5,7 @@ ghost use Rattle.std.specs.Io.KnownBytes.{Appends};
 ghost use Rattle.nix_format.specs.Outcomes.{is_input, changed_name, input_text, writes, Prints, IsDiffOf, IsPrinted, IsReplaced, IsFinished, IsTextFormatted, IsFileFormatted};
 
 use crate::unified::unified_diff;
-use nix_cli::{Program, TextReader, display_name, location_of, replace_text, replaceable};
+use nix_cli::{Command, TextReader, display_name, location_of, replace_text, replaceable};
 use nix_diagnostics::first_diagnostics;
 use nix_formatting::{Formatting, formatted};
 use rnix::Root;
@@ -15,7 +15,7 @@ use std::io::{self, Write};
 // The greatest number of errors of a file that are printed.
 const LIMIT: usize = 3;
 
-/// The program's task for the formatted text of a file.
+/// The command's task for the formatted text of a file.
 #[derive(Clone, Copy, PartialEq, Eq)]
 pub enum Task {
     /// Write it to the file.
@@ -60,7 +60,7 @@ struct Change<'a> {
 }
 
 // Prints the first errors of a text.
-fn write_errors(rt: &HostRuntime, program: &Program, name: &str, text: &str) -> io::Result<()> {
+fn write_errors(rt: &HostRuntime, command: &Command, name: &str, text: &str) -> io::Result<()> {
     let read = Root::parse(rt.alloc(), text)?;
     let found = first_diagnostics(rt.alloc(), &read, LIMIT)?;
     let shown = display_name(name);
@@ -69,28 +69,28 @@ fn write_errors(rt: &HostRuntime, program: &Program, name: &str, text: &str) -> 
         let message = diagnostic.message.as_str();
         eprintln!(rt;
             "{}: {shown}:{line}:{column}: error: {message}",
-            program.name
+            command.name
         )?;
     }
     if found.count > LIMIT {
         eprintln!(rt;
-            "{}: {shown}: more errors (nix-check shows them)",
-            program.name
+            "{}: {shown}: more errors (rnix check shows them)",
+            command.name
         )?;
     }
     Ok(())
 }
 
 // Reports an error of a file.
-fn fail(rt: &HostRuntime, program: &Program, name: &str, error: io::Error) -> io::Result<Outcome>
+fn fail(rt: &HostRuntime, command: &Command, name: &str, error: io::Error) -> io::Result<Outcome>
     ensures { IfOk result (λ outcome. outcome ≡ Outcome.Failed) }
 {
-    eprintln!(rt; "{}: {name}: {error}", program.name)?;
+    eprintln!(rt; "{}: {name}: {error}", command.name)?;
     Ok(Outcome::Failed)
 }
 
 // Replaces a file, but not standard input. Reports what fails.
-fn replace(rt: &HostRuntime, program: &Program, change: Change<'_>) -> io::Result<Outcome>
+fn replace(rt: &HostRuntime, command: &Command, change: Change<'_>) -> io::Result<Outcome>
     ensures { IfOk result (IsReplaced change.entry.name.now) }
 {
     if change.name == "-" {
@@ -98,7 +98,7 @@ fn replace(rt: &HostRuntime, program: &Program, change: Change<'_>) -> io::Resul
     }
     match replace_text(rt, change.name, change.new) {
         Ok(()) => Ok(Outcome::Changed),
-        Err(error) => fail(rt, program, change.name, error),
+        Err(error) => fail(rt, command, change.name, error),
     }
 }
 
@@ -162,7 +162,7 @@ fn write_change<W: Write>(
 // Writes or prints the formatted text, as the task says.
 fn finish<W: Write>(
     rt: &HostRuntime,
-    program: &Program,
+    command: &Command,
     change: Change<'_>,
     task: Task,
     out: &mut W,
@@ -176,16 +176,16 @@ fn finish<W: Write>(
         return Ok(Outcome::Same);
     }
     if task.writes() {
-        return replace(rt, program, change);
+        return replace(rt, command, change);
     }
     Ok(Outcome::Changed)
 }
 
 // Reports that a text was not formatted because of a bug in the formatter.
-fn write_refusal(rt: &HostRuntime, program: &Program, name: &str) -> io::Result<()> {
+fn write_refusal(rt: &HostRuntime, command: &Command, name: &str) -> io::Result<()> {
     eprintln!(rt;
         "{}: {}: this text is left as it is: its new text would differ in more than white space, or change again, which is a bug; please report it",
-        program.name,
+        command.name,
         display_name(name)
     )
 }
@@ -193,7 +193,7 @@ fn write_refusal(rt: &HostRuntime, program: &Program, name: &str) -> io::Result<
 // Formats a text.
 fn format_text<W: Write>(
     rt: &HostRuntime,
-    program: &Program,
+    command: &Command,
     name: &str,
     text: &str,
     task: Task,
@@ -208,14 +208,14 @@ fn format_text<W: Write>(
                 old: text,
                 new: made.as_str(),
             };
-            finish(rt, program, change, task, out)
+            finish(rt, command, change, task, out)
         }
         Formatting::HasErrors => {
-            write_errors(rt, program, name, text)?;
+            write_errors(rt, command, name, text)?;
             Ok(Outcome::Failed)
         }
         Formatting::Refused => {
-            write_refusal(rt, program, name)?;
+            write_refusal(rt, command, name)?;
             Ok(Outcome::Failed)
         }
     }
@@ -224,7 +224,7 @@ fn format_text<W: Write>(
 // Reads and formats a file. A file that cannot be read is reported.
 fn read_and_format<R: TextReader, W: Write>(
     rt: &HostRuntime,
-    program: &Program,
+    command: &Command,
     reader: &R,
     name: &str,
     task: Task,
@@ -232,8 +232,8 @@ fn read_and_format<R: TextReader, W: Write>(
 ) -> io::Result<Outcome>
     ensures { IfOk result (IsFileFormatted task (R.texts reader.now) name.now (W.contents out.old) (W.contents out.new)) }
 {
-    match reader.read_text(rt, program, name, out)? {
-        Some(text) => format_text(rt, program, name, text.as_str(), task, out),
+    match reader.read_text(rt, command, name, out)? {
+        Some(text) => format_text(rt, command, name, text.as_str(), task, out),
         None => Ok(Outcome::Failed),
     }
 }
@@ -252,7 +252,7 @@ fn replacement_error(rt: &HostRuntime, name: &str, task: Task) -> Option<io::Err
 /// Formats a file, or standard input for `-`. Reports what fails. A file that is to be written but cannot be replaced is not read.
 pub fn format_file<R: TextReader, W: Write>(
     rt: &HostRuntime,
-    program: &Program,
+    command: &Command,
     reader: &R,
     name: &str,
     task: Task,
@@ -261,7 +261,7 @@ pub fn format_file<R: TextReader, W: Write>(
     ensures { IfOk result (IsFileFormatted task (R.texts reader.now) name.now (W.contents out.old) (W.contents out.new)) }
 {
     match replacement_error(rt, name, task) {
-        Some(error) => fail(rt, program, name, error),
-        None => read_and_format(rt, program, reader, name, task, out),
+        Some(error) => fail(rt, command, name, error),
+        None => read_and_format(rt, command, reader, name, task, out),
     }
 }

@@ -4,7 +4,7 @@ ghost use Rattle.std.specs.Prelude.{◌≡◌, map, string_bytes, IfOk, OnOk};
 ghost use Rattle.std.specs.Io.KnownBytes.{Appends};
 ghost use Rattle.nix_format.specs.Outcomes.{heading, counted, found_status, status_of, AreFormatted, IsReport};
 
-use crate::PROGRAM;
+use crate::command::COMMAND;
 use crate::file::{Outcome, Task, format_file};
 use nix_cli::{FAILED, FOUND, Files, Progress, TextReader, display_name};
 use std::io::{self, Write};
@@ -101,7 +101,7 @@ fn format_each<R: TextReader, W: Write>(
         let name = files.names[number].as_str();
         progress.show(rt, number)?;
         write_heading(has_headings, name, out)?;
-        let outcome = format_file(rt, &PROGRAM, reader, name, task, out)?;
+        let outcome = format_file(rt, &COMMAND, reader, name, task, out)?;
         tally = tally.counted(outcome);
     }
     progress.clear(rt)?;

@@ -6,5 +6,5 @@ use Rattle.nix_cli.proofs.arguments.parse_arguments.Given as goal
 
 abbrev pub invariant-loop-argument : goal.invariant-loop-argument
 invariant-loop-argument l =
-    parse_from (options_of l.program) (parsed_of l.given) (map string_bytes (drop l.argument-index l.arguments))
-    ≡ parse_from (options_of l.program) nothing (map string_bytes l.arguments)
+    parse_from (options_of l.command) (parsed_of l.given) (map string_bytes (drop l.argument-index l.arguments))
+    ≡ parse_from (options_of l.command) nothing (map string_bytes l.arguments)

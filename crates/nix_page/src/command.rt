@@ -1,27 +1,20 @@
-//! Shows a Nix text as a page: `nix-page [FILE] > PAGE` writes one HTML file with the colored source, its errors, and its tree.
-#![tactic(auto)]
+//! The command `rnix page`.
 
-mod html;
-mod script;
-mod source;
-mod style;
-mod tree;
-
-use html::write_text;
-use nix_cli::{Arguments, FAILED, Program, Start, display_name, end, read_arguments, read_text};
+use crate::html::write_text;
+use crate::script::SCRIPT;
+use crate::source::write_source;
+use crate::style::{AFTER_HEADING, AFTER_TITLE, AFTER_TREE, BEFORE_TITLE};
+use crate::tree::write_tree;
+use nix_cli::{Arguments, Command, FAILED, Start, display_name, end, read_arguments, read_text};
 use rnix::Root;
-use script::SCRIPT;
-use source::write_source;
 use std::io::{self, BufWriter, Write};
 use std::process::ExitCode;
-use style::{AFTER_HEADING, AFTER_TITLE, AFTER_TREE, BEFORE_TITLE};
-use tree::write_tree;
 
-const PROGRAM: Program = Program {
-    name: "nix-page",
-    help: "\
-nix-page [FILE] > PAGE
-
+/// The command and its options.
+pub const COMMAND: Command = Command {
+    name: "rnix page",
+    usage: &["[FILE] > PAGE"],
+    help: "
 Prints a Nix text of at most 1 MiB as an HTML page: the source in colors, its errors, and its tree. - and no FILE mean standard input.
 
 ",
@@ -56,10 +49,10 @@ const LONGEST: usize = 1 << 20;
 // Writes the page of the file that the command line names.
 fn show(rt: &HostRuntime, arguments: &Arguments) -> io::Result<u8> {
     let name = arguments.words.first().map_or("-", |name| name.as_str());
-    match read_text(rt, &PROGRAM, name)? {
+    match read_text(rt, &COMMAND, name)? {
         Some(text) if text.len() > LONGEST => {
             let shown = display_name(name);
-            eprintln!(rt; "nix-page: {shown}: the text is longer than 1 MiB")?;
+            eprintln!(rt; "{}: {shown}: the text is longer than 1 MiB", COMMAND.name)?;
             Ok(FAILED)
         }
         Some(text) => {
@@ -70,10 +63,11 @@ fn show(rt: &HostRuntime, arguments: &Arguments) -> io::Result<u8> {
     }
 }
 
-fn main(rt: HostRuntime) -> ExitCode {
-    let outcome = match read_arguments(&rt, &PROGRAM) {
-        Start::Run(arguments) => show(&rt, &arguments),
+/// Prints a page that shows a Nix text. Takes the arguments that follow the name of the command, and returns the exit code.
+pub fn run(rt: &HostRuntime, arguments: &[String]) -> ExitCode {
+    let outcome = match read_arguments(rt, &COMMAND, arguments) {
+        Start::Run(arguments) => show(rt, &arguments),
         Start::End(outcome) => outcome,
     };
-    end(&rt, &PROGRAM, outcome)
+    end(rt, &COMMAND, outcome)
 }

@@ -1,11 +1,8 @@
-//! Prints which names Nix files bind, and what each name in them refers to: `nix-names [OPTION..] [FILE..]`, by default of standard input.
-#![tactic(auto)]
+//! The command `rnix names`.
 
-mod lines;
-
-use lines::write_names;
+use crate::lines::write_names;
 use nix_cli::{
-    Arguments, FAILED, Program, Start, TextReader, display_name, end, find_inputs, location_of,
+    Arguments, Command, FAILED, Start, TextReader, display_name, end, find_inputs, location_of,
     read_arguments, refuse_after_output,
 };
 use nix_scopes::resolve;
@@ -14,11 +11,11 @@ use rnix_text::{ColumnUnit, LineIndex};
 use std::io::{self, BufWriter, Write};
 use std::process::ExitCode;
 
-const PROGRAM: Program = Program {
-    name: "nix-names",
-    help: "\
-nix-names [OPTION..] [FILE..]
-
+/// The command and its options.
+pub const COMMAND: Command = Command {
+    name: "rnix names",
+    usage: &["[OPTION..] [FILE..]"],
+    help: "
 Prints a line for each name that a let, a rec set or a function binds, and for each name that is used, with the place of its binding. A folder
 stands for all files in it and below that end with .nix; - and no FILE mean standard input.
 
@@ -43,7 +40,7 @@ fn refuse_text<W: Write>(
 ) -> io::Result<()> {
     let range = read.errors().first().and_then(|error| error.range());
     let location = location_of(text, range.map_or(text.len(), |range| range.start()));
-    refuse_after_output(rt, &PROGRAM, file, location, "syntax error", out)
+    refuse_after_output(rt, &COMMAND, file, location, "syntax error", out)
 }
 
 // Writes the names of a text, and returns the exit status. A text with syntax errors is refused.
@@ -68,11 +65,11 @@ fn report<W: Write>(
 // Writes the names of the files that the command line names, and returns the highest exit status.
 fn report_files(rt: &HostRuntime, arguments: &Arguments) -> io::Result<u8> {
     let mut out = BufWriter::new(rt.alloc(), rt.stdout())?;
-    let inputs = find_inputs(rt, &PROGRAM, &arguments.words)?;
+    let inputs = find_inputs(rt, &COMMAND, &arguments.words)?;
     let is_json = arguments.has("--json");
     let mut status = inputs.files.status();
     for file in &inputs.files.names {
-        let own = match inputs.read_text(rt, &PROGRAM, file.as_str(), &mut out)? {
+        let own = match inputs.read_text(rt, &COMMAND, file.as_str(), &mut out)? {
             Some(text) => report(
                 rt,
                 display_name(file.as_str()),
@@ -88,10 +85,12 @@ fn report_files(rt: &HostRuntime, arguments: &Arguments) -> io::Result<u8> {
     Ok(status)
 }
 
-fn main(rt: HostRuntime) -> ExitCode {
-    let outcome = match read_arguments(&rt, &PROGRAM) {
-        Start::Run(arguments) => report_files(&rt, &arguments),
+/// Prints which names Nix files bind, and what each name in them refers to. Takes the arguments that follow the name of the command, and
+/// returns the exit code.
+pub fn run(rt: &HostRuntime, arguments: &[String]) -> ExitCode {
+    let outcome = match read_arguments(rt, &COMMAND, arguments) {
+        Start::Run(arguments) => report_files(rt, &arguments),
         Start::End(outcome) => outcome,
     };
-    end(&rt, &PROGRAM, outcome)
+    end(rt, &COMMAND, outcome)
 }

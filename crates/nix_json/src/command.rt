@@ -1,25 +1,21 @@
-//! Prints the data of a Nix text as JSON: `nix-json [--lossy] [FILE [PATH]]`, and JSON as Nix: `nix-json --to-nix [FILE]`.
-#![tactic(auto)]
+//! The command `rnix json`.
 
-mod report;
-
+use crate::report::{report_errors, report_no_data};
 use nix_cli::{
-    Arguments, FAILED, FOUND, Program, Start, display_name, end, location_of, read_arguments,
+    Arguments, Command, FAILED, FOUND, Start, display_name, end, location_of, read_arguments,
     read_text, refuse,
 };
 use nix_data::{data_in, nix_of};
 use nix_values::{Data, data_of_json, json_of};
-use report::{report_errors, report_no_data};
 use rnix::Root;
 use std::io::{self, Write};
 use std::process::ExitCode;
 
-const PROGRAM: Program = Program {
-    name: "nix-json",
-    help: "\
-nix-json [--lossy] [FILE [PATH]]
-nix-json --to-nix [FILE]
-
+/// The command and its options.
+pub const COMMAND: Command = Command {
+    name: "rnix json",
+    usage: &["[--lossy] [FILE [PATH]]", "--to-nix [FILE]"],
+    help: "
 Prints the data of a Nix text as JSON, or its part at a dotted PATH. Data are sets, lists, strings, paths, numbers, true, false and null.
 What Nix must evaluate, such as a call, is refused. Without FILE, or if it is -, standard input is read. In PATH, a number selects an item of
 a list, and a name may be in quotes.
@@ -46,7 +42,7 @@ fn write_converted(rt: &HostRuntime, converted: Option<String>) -> io::Result<u8
         None => {
             refuse(
                 rt,
-                &PROGRAM,
+                &COMMAND,
                 "what would be printed does not read as the same data: at most 512 values may nest",
             )?;
             Ok(FAILED)
@@ -63,7 +59,8 @@ fn write_part(rt: &HostRuntime, name: &str, data: Data, path: Option<&str>) -> i
         Some(part) => write_converted(rt, json_of(rt.alloc(), &part)?),
         None => {
             eprintln!(rt;
-                "nix-json: {}: nothing has the path {path}",
+                "{}: {}: nothing has the path {path}",
+                COMMAND.name,
                 display_name(name)
             )?;
             Ok(FOUND)
@@ -102,10 +99,10 @@ fn to_nix(rt: &HostRuntime, name: &str, text: &str) -> io::Result<u8> {
     let name = display_name(name);
     let (line, column) = location_of(text, error.offset);
     let reason = error.reason.text();
-    eprintln!(rt; "nix-json: {name}:{line}:{column}: {reason}")?;
+    eprintln!(rt; "{}: {name}:{line}:{column}: {reason}", COMMAND.name)?;
     if let Some(first) = error.first {
         let (line, column) = location_of(text, first);
-        eprintln!(rt; "nix-json: {name}:{line}:{column}: the first one")?;
+        eprintln!(rt; "{}: {name}:{line}:{column}: the first one", COMMAND.name)?;
     }
     Ok(FOUND)
 }
@@ -117,20 +114,21 @@ fn convert(rt: &HostRuntime, arguments: &Arguments) -> io::Result<u8> {
     let path = words.next().map(|path| path.as_str());
     let (is_lossy, is_to_nix) = (arguments.has("--lossy"), arguments.has("--to-nix"));
     if is_to_nix && (is_lossy || path.is_some()) {
-        refuse(rt, &PROGRAM, "--to-nix takes no --lossy and no PATH")?;
+        refuse(rt, &COMMAND, "--to-nix takes no --lossy and no PATH")?;
         return Ok(FAILED);
     }
-    match read_text(rt, &PROGRAM, name)? {
+    match read_text(rt, &COMMAND, name)? {
         Some(text) if is_to_nix => to_nix(rt, name, text.as_str()),
         Some(text) => to_json(rt, name, text.as_str(), path, is_lossy),
         None => Ok(FAILED),
     }
 }
 
-fn main(rt: HostRuntime) -> ExitCode {
-    let outcome = match read_arguments(&rt, &PROGRAM) {
-        Start::Run(arguments) => convert(&rt, &arguments),
+/// Prints the data of a Nix text as JSON, and JSON as Nix. Takes the arguments that follow the name of the command, and returns the exit code.
+pub fn run(rt: &HostRuntime, arguments: &[String]) -> ExitCode {
+    let outcome = match read_arguments(rt, &COMMAND, arguments) {
+        Start::Run(arguments) => convert(rt, &arguments),
         Start::End(outcome) => outcome,
     };
-    end(&rt, &PROGRAM, outcome)
+    end(rt, &COMMAND, outcome)
 }

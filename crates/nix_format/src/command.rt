@@ -1,22 +1,16 @@
-//! Writes Nix files in the style of Nixpkgs: `nix-format [OPTION..] [FILE..]`, or with no file the text on standard input.
-#![tactic(auto)]
+//! The command `rnix format`.
 
-mod diff;
-mod file;
-mod report;
-mod unified;
-
-use file::Task;
-use nix_cli::{Arguments, Program, Start, end, find_files, read_arguments};
-use report::format_files;
+use crate::file::Task;
+use crate::report::format_files;
+use nix_cli::{Arguments, Command, Start, end, find_files, read_arguments};
 use std::io;
 use std::process::ExitCode;
 
-const PROGRAM: Program = Program {
-    name: "nix-format",
-    help: "\
-nix-format [OPTION..] [FILE..]
-
+/// The command and its options.
+pub const COMMAND: Command = Command {
+    name: "rnix format",
+    usage: &["[OPTION..] [FILE..]"],
+    help: "
 Writes Nix files in the style of Nixpkgs. Only white space changes: the tokens of each new text, comments included, are compared with the old ones,
 and the tree is the same. Strings in '' are indented with the code, and their values, as Nix makes them, are compared. A file with errors stays as it
 is. A folder means all regular files in it and below that end with .nix; - and no FILE mean standard input, whose new text is printed. Files are
@@ -52,14 +46,15 @@ fn task_of(arguments: &Arguments) -> Task {
 
 // Formats the files that the command line names, and returns the exit status.
 fn format_named(rt: &HostRuntime, arguments: &Arguments) -> io::Result<u8> {
-    let files = find_files(rt, &PROGRAM, &arguments.words)?;
+    let files = find_files(rt, &COMMAND, &arguments.words)?;
     format_files(rt, &files, &files, task_of(arguments), &mut rt.stdout())
 }
 
-fn main(rt: HostRuntime) -> ExitCode {
-    let outcome = match read_arguments(&rt, &PROGRAM) {
-        Start::Run(arguments) => format_named(&rt, &arguments),
+/// Writes Nix files in the style of Nixpkgs. Takes the arguments that follow the name of the command, and returns the exit code.
+pub fn run(rt: &HostRuntime, arguments: &[String]) -> ExitCode {
+    let outcome = match read_arguments(rt, &COMMAND, arguments) {
+        Start::Run(arguments) => format_named(rt, &arguments),
         Start::End(outcome) => outcome,
     };
-    end(&rt, &PROGRAM, outcome)
+    end(rt, &COMMAND, outcome)
 }

@@ -1,25 +1,20 @@
-//! Renames a binding and its uses: `nix-rename [-i] FILE LINE:COLUMN NAME` prints the text of FILE in which the name at that place, its binding and its other
-//! uses are replaced by NAME. It refuses to if any name would then mean something else.
-#![tactic(auto)]
+//! The command `rnix rename`.
 
-mod refusal;
-mod rename;
-
+use crate::rename::{Renaming, rename};
 use nix_cli::{
-    Arguments, FAILED, FOUND, Program, Start, display_name, end, location_of, read_arguments,
+    Arguments, Command, FAILED, FOUND, Start, display_name, end, location_of, read_arguments,
     read_text, refuse, write_text,
 };
-use rename::{Renaming, rename};
 use rnix::{Parse, Root};
 use rnix_text::{ColumnUnit, LineIndex, Position};
 use std::io;
 use std::process::ExitCode;
 
-const PROGRAM: Program = Program {
-    name: "nix-rename",
-    help: "\
-nix-rename [-i] FILE LINE:COLUMN NAME
-
+/// The command and its options.
+pub const COMMAND: Command = Command {
+    name: "rnix rename",
+    usage: &["[-i] FILE LINE:COLUMN NAME"],
+    help: "
 Prints a Nix text in which the binding of the name at a place is called NAME, with all its uses, and all else is as before. It refuses
 where some name would then mean something else, and names that operators, paths in <> or the old let use, as __sub. Lines and columns count from 1,
 columns in characters; an offset in bytes may replace LINE:COLUMN. - stands for standard input.
@@ -58,7 +53,8 @@ fn refuse_text(rt: &HostRuntime, name: &str, text: &str, read: &Parse) -> io::Re
     let range = read.errors().first().and_then(|error| error.range());
     let (line, column) = location_of(text, range.map_or(text.len(), |range| range.start()));
     eprintln!(rt;
-        "nix-rename: {}:{line}:{column}: this is not Nix",
+        "{}: {}:{line}:{column}: this is not Nix",
+        COMMAND.name,
         display_name(name)
     )?;
     Ok(FAILED)
@@ -79,19 +75,24 @@ fn rename_at(
     }
     let Some(offset) = offset_of(rt, text, location)? else {
         eprintln!(rt;
-            "nix-rename: {}: there is no place {location}",
+            "{}: {}: there is no place {location}",
+            COMMAND.name,
             display_name(name)
         )?;
         return Ok(FAILED);
     };
     match rename(rt.alloc(), text, &read.syntax(), offset, new) {
-        Ok(Renaming::Renamed(made)) => write_text(rt, &PROGRAM, name, made.as_str(), in_place),
+        Ok(Renaming::Renamed(made)) => write_text(rt, &COMMAND, name, made.as_str(), in_place),
         Ok(Renaming::Refused(reason)) => {
-            eprintln!(rt; "nix-rename: {}:{location}: {reason}", display_name(name))?;
+            eprintln!(rt;
+                "{}: {}:{location}: {reason}",
+                COMMAND.name,
+                display_name(name)
+            )?;
             Ok(FOUND)
         }
         Err(_) => {
-            eprintln!(rt; "nix-rename: {}: out of memory", display_name(name))?;
+            eprintln!(rt; "{}: {}: out of memory", COMMAND.name, display_name(name))?;
             Ok(FAILED)
         }
     }
@@ -105,10 +106,10 @@ fn rename_in_file(rt: &HostRuntime, arguments: &Arguments) -> io::Result<u8> {
     };
     let (name, in_place) = (name.as_str(), arguments.has("-i"));
     if in_place && name == "-" {
-        refuse(rt, &PROGRAM, "-i needs a FILE")?;
+        refuse(rt, &COMMAND, "-i needs a FILE")?;
         return Ok(FAILED);
     }
-    match read_text(rt, &PROGRAM, name)? {
+    match read_text(rt, &COMMAND, name)? {
         Some(text) => rename_at(
             rt,
             name,
@@ -121,10 +122,12 @@ fn rename_in_file(rt: &HostRuntime, arguments: &Arguments) -> io::Result<u8> {
     }
 }
 
-fn main(rt: HostRuntime) -> ExitCode {
-    let outcome = match read_arguments(&rt, &PROGRAM) {
-        Start::Run(arguments) => rename_in_file(&rt, &arguments),
+/// Prints or writes a text in which a binding and its uses have another name. Takes the arguments that follow the name of the command, and
+/// returns the exit code.
+pub fn run(rt: &HostRuntime, arguments: &[String]) -> ExitCode {
+    let outcome = match read_arguments(rt, &COMMAND, arguments) {
+        Start::Run(arguments) => rename_in_file(rt, &arguments),
         Start::End(outcome) => outcome,
     };
-    end(&rt, &PROGRAM, outcome)
+    end(rt, &COMMAND, outcome)
 }

@@ -1,20 +1,16 @@
-//! Prints the bindings that nothing uses: `nix-dead [OPTION..] [FILE..]`, by default those of standard input.
-#![tactic(auto)]
+//! The command `rnix dead`.
 
-mod dead;
-mod report;
-
-use nix_cli::{Arguments, Program, Start, end, find_inputs, read_arguments};
-use report::report_files;
+use crate::report::report_files;
+use nix_cli::{Arguments, Command, Start, end, find_inputs, read_arguments};
 use std::io;
 use std::io::{BufWriter, Write};
 use std::process::ExitCode;
 
-const PROGRAM: Program = Program {
-    name: "nix-dead",
-    help: "\
-nix-dead [OPTION..] [FILE..]
-
+/// The command and its options.
+pub const COMMAND: Command = Command {
+    name: "rnix dead",
+    usage: &["[OPTION..] [FILE..]"],
+    help: "
 Prints the names bound by let and the parameters that are never used, except those that start with _ and the entries of a pattern
 whose own name is used, as in args@{ a }: args.a. Without an entry, callers may no longer pass the argument if the pattern has no `...`.
 A folder stands for all files in it and below that end with .nix; - and no FILE mean standard input.
@@ -33,7 +29,7 @@ Ends with 0 if all names are used, 1 if some are not, 2 if a file has a syntax e
 // Writes the unused names of the files that the command line names, and returns the highest exit status.
 fn report_named(rt: &HostRuntime, arguments: &Arguments) -> io::Result<u8> {
     let mut out = BufWriter::new(rt.alloc(), rt.stdout())?;
-    let inputs = find_inputs(rt, &PROGRAM, &arguments.words)?;
+    let inputs = find_inputs(rt, &COMMAND, &arguments.words)?;
     let status = report_files(
         rt,
         &inputs,
@@ -45,10 +41,11 @@ fn report_named(rt: &HostRuntime, arguments: &Arguments) -> io::Result<u8> {
     Ok(status)
 }
 
-fn main(rt: HostRuntime) -> ExitCode {
-    let outcome = match read_arguments(&rt, &PROGRAM) {
-        Start::Run(arguments) => report_named(&rt, &arguments),
+/// Prints the bindings that nothing uses. Takes the arguments that follow the name of the command, and returns the exit code.
+pub fn run(rt: &HostRuntime, arguments: &[String]) -> ExitCode {
+    let outcome = match read_arguments(rt, &COMMAND, arguments) {
+        Start::Run(arguments) => report_named(rt, &arguments),
         Start::End(outcome) => outcome,
     };
-    end(&rt, &PROGRAM, outcome)
+    end(rt, &COMMAND, outcome)
 }

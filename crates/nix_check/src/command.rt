@@ -1,36 +1,24 @@
-//! Reports syntax errors of Nix files by rnix's grammar and, in files without any, repeated attributes and white space that Nix refuses:
-//! `nix-check [OPTION..] [FILE..]`, by default of standard input.
-#![tactic(auto)]
+//! The command `rnix check`.
 
-mod check;
-mod fixing;
-mod json;
-mod lints;
-mod report;
-mod sarif;
-mod style;
-mod tally;
-mod text;
-
-use fixing::fix_files;
+use crate::fixing::fix_files;
+use crate::report::report_files;
+use crate::style::{Format, Style};
 use nix_cli::{
-    Arguments, FAILED, Program, Start, end, find_files, find_inputs, is_colored, read_arguments,
+    Arguments, Command, FAILED, Start, end, find_files, find_inputs, is_colored, read_arguments,
     refuse,
 };
-use report::report_files;
 use std::io;
 use std::io::{BufWriter, Write};
 use std::process::ExitCode;
-use style::{Format, Style};
 
 // The greatest number of diagnostics of a file that are printed without `--all`.
 const LIMIT: usize = 20;
 
-const PROGRAM: Program = Program {
-    name: "nix-check",
-    help: "\
-nix-check [OPTION..] [FILE..]
-
+/// The command and its options.
+pub const COMMAND: Command = Command {
+    name: "rnix check",
+    usage: &["[OPTION..] [FILE..]"],
+    help: "
 Prints the syntax errors of Nix files: the place, the line, what was expected there, and what may help. A mistake that leads to several errors
 is reported once, unless --all is given. In files without syntax errors, two things are errors because Nix refuses them: attributes that are
 defined again, and white space that Nix refuses, such as no-break spaces. A folder stands for all files in it and below that end with .nix;
@@ -83,7 +71,7 @@ fn check_all(rt: &HostRuntime, arguments: &Arguments, format: Format) -> io::Res
     let style = style_of(rt, arguments, format);
     let mut out = BufWriter::new(rt.alloc(), rt.stdout())?;
     // Before anything is written, folders are read, and those that cannot be read are reported.
-    let inputs = find_inputs(rt, &PROGRAM, &arguments.words)?;
+    let inputs = find_inputs(rt, &COMMAND, &arguments.words)?;
     let status = report_files(rt, &inputs, &inputs.files, style, &mut out)?;
     out.flush()?;
     Ok(status)
@@ -93,7 +81,7 @@ fn check_all(rt: &HostRuntime, arguments: &Arguments, format: Format) -> io::Res
 fn fix_all(rt: &HostRuntime, arguments: &Arguments) -> io::Result<u8> {
     let style = style_of(rt, arguments, Format::Text);
     let mut out = BufWriter::new(rt.alloc(), rt.stderr())?;
-    let files = find_files(rt, &PROGRAM, &arguments.words)?;
+    let files = find_files(rt, &COMMAND, &arguments.words)?;
     fix_files(rt, &files, &files, style, &mut out)
 }
 
@@ -112,7 +100,7 @@ fn wrong_with(arguments: &Arguments) -> Option<&'static str> {
 // Checks or fixes the files that the command line names, and returns the exit status.
 fn run_with(rt: &HostRuntime, arguments: &Arguments) -> io::Result<u8> {
     if let Some(reason) = wrong_with(arguments) {
-        refuse(rt, &PROGRAM, reason)?;
+        refuse(rt, &COMMAND, reason)?;
         return Ok(FAILED);
     }
     if arguments.has("--fix") {
@@ -122,10 +110,12 @@ fn run_with(rt: &HostRuntime, arguments: &Arguments) -> io::Result<u8> {
     }
 }
 
-fn main(rt: HostRuntime) -> ExitCode {
-    let outcome = match read_arguments(&rt, &PROGRAM) {
-        Start::Run(arguments) => run_with(&rt, &arguments),
+/// Reports the syntax errors of Nix files and, in files without any, repeated attributes and white space that Nix refuses. Takes the arguments that follow
+/// the name of the command, and returns the exit code.
+pub fn run(rt: &HostRuntime, arguments: &[String]) -> ExitCode {
+    let outcome = match read_arguments(rt, &COMMAND, arguments) {
+        Start::Run(arguments) => run_with(rt, &arguments),
         Start::End(outcome) => outcome,
     };
-    end(&rt, &PROGRAM, outcome)
+    end(rt, &COMMAND, outcome)
 }

@@ -1,46 +1,25 @@
-//! Sets, adds and removes attributes of a Nix text, and changes nothing else: `nix-update [OPTION..] PATH VALUE [FILE]` prints the text of
-//! FILE or of standard input in which the attribute of the dotted PATH has the VALUE. PATH has names as they are written in the text, quotes
-//! included.
-#![tactic(auto)]
+//! The command `rnix update`.
 
-mod adding;
-mod change;
-mod definitions;
-mod guard;
-mod inner;
-mod insertion_sets;
-mod meaning;
-mod node_start;
-mod other_value;
-mod outcome;
-mod path;
-mod path_match;
-mod plain;
-mod removing;
-mod request;
-mod setting;
-mod steps;
-mod update;
-mod value;
-
+use crate::other_value::is_other_value;
+use crate::outcome::{Outcome, Refused};
+use crate::request::{Action, Update};
+use crate::update::updated;
+use crate::value::Form;
 use nix_cli::{
-    Arguments, FAILED, FOUND, Program, Start, display_name, end, location_of, read_arguments,
+    Arguments, Command, FAILED, FOUND, Start, display_name, end, location_of, read_arguments,
     read_text, refuse, write_text,
 };
-use other_value::is_other_value;
-use outcome::{Outcome, Refused};
-use request::{Action, Update};
 use std::io;
 use std::process::ExitCode;
-use update::updated;
-use value::Form;
 
-const PROGRAM: Program = Program {
-    name: "nix-update",
-    help: "\
-nix-update [OPTION..] PATH VALUE [FILE]
-nix-update [OPTION..] --remove PATH [FILE]
-
+/// The command and its options.
+pub const COMMAND: Command = Command {
+    name: "rnix update",
+    usage: &[
+        "[OPTION..] PATH VALUE [FILE]",
+        "[OPTION..] --remove PATH [FILE]",
+    ],
+    help: "
 Prints a Nix text in which the attribute of the dotted PATH is the string VALUE in place of another string, and all else is as before. In
 PATH, names are written as in the text, quotes included: a and \"a\" are one name. - or no FILE means standard input.
 
@@ -119,9 +98,9 @@ fn report(
     match offset {
         Some(offset) => {
             let (line, column) = location_of(text, offset);
-            eprintln!(rt; "nix-update: {shown}:{line}:{column}: {message}")?;
+            eprintln!(rt; "{}: {shown}:{line}:{column}: {message}", COMMAND.name)?;
         }
-        None => eprintln!(rt; "nix-update: {shown}: {message}")?,
+        None => eprintln!(rt; "{}: {shown}: {message}", COMMAND.name)?,
     }
     Ok(())
 }
@@ -146,16 +125,16 @@ const SET_IN_LET: &str = "no attribute has this path: this name of a `let` is se
 // Writes the updated text of a file.
 fn update_file(rt: &HostRuntime, name: &str, update: Update<'_>, in_place: bool) -> io::Result<u8> {
     if in_place && name == "-" {
-        refuse(rt, &PROGRAM, "-i needs a FILE")?;
+        refuse(rt, &COMMAND, "-i needs a FILE")?;
         return Ok(FAILED);
     }
-    let Some(text) = read_text(rt, &PROGRAM, name)? else {
+    let Some(text) = read_text(rt, &COMMAND, name)? else {
         return Ok(FAILED);
     };
     match updated(rt.alloc(), text.as_str(), update)? {
-        Outcome::Updated(made) => write_text(rt, &PROGRAM, name, made.as_str(), in_place),
+        Outcome::Updated(made) => write_text(rt, &COMMAND, name, made.as_str(), in_place),
         Outcome::SetInLet(made, offset) => {
-            let status = write_text(rt, &PROGRAM, name, made.as_str(), in_place)?;
+            let status = write_text(rt, &COMMAND, name, made.as_str(), in_place)?;
             if status == 0 {
                 report(rt, name, text.as_str(), Some(offset), SET_IN_LET)?;
             }
@@ -174,13 +153,16 @@ fn tell_of_string(rt: &HostRuntime, update: Update<'_>) -> io::Result<()> {
         return Ok(());
     }
     let value = update.value;
-    eprintln!(rt; "nix-update: the value is the string \"{value}\"; with --raw it is {value}")
+    eprintln!(rt;
+        "{}: the value is the string \"{value}\"; with --raw it is {value}",
+        COMMAND.name
+    )
 }
 
-// Runs the program with some arguments.
+// Runs the command with some arguments.
 fn run_with(rt: &HostRuntime, arguments: &Arguments) -> io::Result<u8> {
     if let Some(reason) = wrong_with(arguments) {
-        refuse(rt, &PROGRAM, reason)?;
+        refuse(rt, &COMMAND, reason)?;
         return Ok(FAILED);
     }
     let action = action_of(arguments);
@@ -205,10 +187,12 @@ fn run_with(rt: &HostRuntime, arguments: &Arguments) -> io::Result<u8> {
     Ok(status)
 }
 
-fn main(rt: HostRuntime) -> ExitCode {
-    let outcome = match read_arguments(&rt, &PROGRAM) {
-        Start::Run(arguments) => run_with(&rt, &arguments),
+/// Prints or writes a text in which an attribute has another value, is added or is gone. Takes the arguments that follow the name of the command, and
+/// returns the exit code.
+pub fn run(rt: &HostRuntime, arguments: &[String]) -> ExitCode {
+    let outcome = match read_arguments(rt, &COMMAND, arguments) {
+        Start::Run(arguments) => run_with(rt, &arguments),
         Start::End(outcome) => outcome,
     };
-    end(&rt, &PROGRAM, outcome)
+    end(rt, &COMMAND, outcome)
 }

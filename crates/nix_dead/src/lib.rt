@@ -1,0 +1,9 @@
+//! Prints the bindings that nothing uses: `rnix dead [OPTION..] [FILE..]`, by default those of standard input.
+#![tactic(auto)]
+
+mod command;
+mod dead;
+mod report;
+
+pub use command::run;
+pub use dead::{Name, dead_names};
