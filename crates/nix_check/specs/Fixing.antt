@@ -1,8 +1,9 @@
 -- Fixing files: the output for each, the counts over all files, and the exit status. A text is the list of its bytes.
-use Rattle.std.specs.Prelude.{◌≡◌, ℕ, ◌==◌, false, List, [], ◌++◌, codes, decimal, Option, Some, None, if◌then◌else◌}
+use Rattle.std.specs.Prelude.{◌≡◌, ℕ, ◌==◌, false, List, [], ◌++◌, codes, decimal, Option, Some, None, if◌then◌else◌, string_bytes}
 use Rattle.std.specs.{Str.bytes_eq, Io.KnownBytes.{Appends, Keeps}}
 use Rattle.nix_cli.specs.{KnownTexts.{KnownTexts, Agrees}, MessageLocations.display_name}
 use Rattle.nix_fixes.specs.AllFixes.{IsFixedUpTo}
+use Rattle.nix_fixes.specs.declared.all_fixes.FixedText.{FixedText}
 use Rattle.nix_check.specs.declared.fixing.TheConstants.{MAX_TRIED}
 use Rattle.nix_check.specs.declared.style.Style.{Style}
 use Rattle.nix_check.specs.declared.tally.Tally.{Tally}
@@ -12,6 +13,10 @@ use Rattle.nix_check.specs.{Tallies.{with_errors, with_unread, status_of, AreTal
 abbrev pub fixes_line : List ℕ → ℕ → List ℕ
 fixes_line name fixes =
     if fixes == 0 then [] else (if fixes == 1 then name ++ codes ": 1 fix\n" else name ++ codes ": " ++ decimal fixes ++ codes " fixes\n")
+
+-- a text is fixed up to the greatest number of diagnostics that are tried
+abbrev pub IsFixOf : List ℕ → FixedText → Type 0
+IsFixOf text made = IsFixedUpTo MAX_TRIED text made.fixes (string_bytes made.text) made.errors
 
 -- a text is fixed: the number of fixes is written, and the new text is checked
 pub record IsTextFixed (style : Style) (name text : List ℕ) (old new : Option (List ℕ)) (remaining : ℕ) : Type 0 where

@@ -21,14 +21,16 @@ pub const COMMAND: Command = Command {
     help: "
 Prints the syntax errors of Nix files: the place, the line, what was expected there, and what may help. A mistake that leads to several errors
 is reported once, unless --all is given. In files without syntax errors, two things are errors because Nix refuses them: attributes that are
-defined again, and white space that Nix refuses, such as no-break spaces. A folder stands for all files in it and below that end with .nix;
-- and no FILE mean standard input. The grammar is that of rnix 0.14, which differs from Nix's in a few places: see docs/nix.md.
+defined again, and white space that Nix refuses, such as no-break spaces. A folder stands for all files in it and below that end with .nix,
+except those that a .gitignore leaves out; - and no FILE mean standard input. The grammar is that of rnix 0.14, which differs from Nix's in a
+few places: see docs/nix.md.
 
     --all      print every error of a file: also those that follow from another, and more than the first 20
     --json     print each error as a line of JSON
     --sarif    print all errors as one SARIF 2.1.0 file
     --fix      write what the notes on the errors propose, wherever a file then has fewer errors: to FILE.new, which is then renamed, or the text
                of standard input to standard output. The number of fixes and the errors that are left are printed on standard error
+    --exclude GLOB  leave out what GLOB names in a folder, as a line of a .gitignore there does; may be given several times
     --color WHEN    use colors: auto (at a terminal, unless NO_COLOR is set), always or never
 ",
     statuses: "
@@ -36,6 +38,7 @@ Ends with 0 if there are no errors, or none are left, 1 if there are some, 2 if 
 ",
     flags: &["--all", "--json", "--sarif", "--fix"],
     has_colors: true,
+    has_excludes: true,
     min_words: 0,
     max_words: usize::MAX,
 };
@@ -71,7 +74,7 @@ fn check_all(rt: &HostRuntime, arguments: &Arguments, format: Format) -> io::Res
     let style = style_of(rt, arguments, format);
     let mut out = BufWriter::new(rt.alloc(), rt.stdout())?;
     // Before anything is written, folders are read, and those that cannot be read are reported.
-    let inputs = find_inputs(rt, &COMMAND, &arguments.words)?;
+    let inputs = find_inputs(rt, &COMMAND, arguments)?;
     let status = report_files(rt, &inputs, &inputs.files, style, &mut out)?;
     out.flush()?;
     Ok(status)
@@ -81,7 +84,7 @@ fn check_all(rt: &HostRuntime, arguments: &Arguments, format: Format) -> io::Res
 fn fix_all(rt: &HostRuntime, arguments: &Arguments) -> io::Result<u8> {
     let style = style_of(rt, arguments, Format::Text);
     let mut out = BufWriter::new(rt.alloc(), rt.stderr())?;
-    let files = find_files(rt, &COMMAND, &arguments.words)?;
+    let files = find_files(rt, &COMMAND, arguments)?;
     fix_files(rt, &files, &files, style, &mut out)
 }
 

@@ -2,9 +2,8 @@
 
 ghost use Rattle.std.specs.Prelude.{◌≡◌, ℕ, List, false, codes, map, string_bytes, IfOk, OnOk, IsFalse};
 ghost use Rattle.std.specs.{Str.bytes_eq, Io.KnownBytes.Appends};
-ghost use Rattle.nix_fixes.specs.AllFixes.{IsFixedUpTo};
 ghost use Rattle.nix_check.specs.Tallies.{AreTallied};
-ghost use Rattle.nix_check.specs.Fixing.{fixes_line, remaining_line, IsTextFixed, IsFileFixed, AreFixed};
+ghost use Rattle.nix_check.specs.Fixing.{fixes_line, remaining_line, IsFixOf, IsTextFixed, IsFileFixed, AreFixed};
 
 use crate::check::check_text;
 use crate::command::COMMAND;
@@ -57,7 +56,7 @@ fn write_result<W: Write>(
     style: Style,
     out: &mut W,
 ) -> io::Result<usize>
-    ensures { IfOk result (λ remaining. (text : List ℕ) → IsFixedUpTo MAX_TRIED text made.now.fixes (string_bytes made.now.text) made.now.errors →
+    ensures { IfOk result (λ remaining. (text : List ℕ) → IsFixOf text made.now →
         IsTextFixed style name.now text (W.contents out.old) (W.contents out.new) remaining) }
 {
     write_fixes(name, made.fixes, out)?;

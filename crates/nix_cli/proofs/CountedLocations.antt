@@ -1,6 +1,6 @@
 -- Lines and columns that are counted from 1.
-use Rattle.std.proofs.Common.{◌≡◌, ℕ, suc, ◌+◌, ◌*◌, ◌≤◌, ◌<◌, ◌^◌, ◌==◌, List, [], ◌∷◌, length, take, fold, Bool, true, false, ap, subst, ◌∙◌, arith}
-use Rattle.std.{proofs.lemmas.{List.length-take-le, Bool.Decides.nat_tests}, specs.{Prelude.if◌then◌else◌, Str.IsCharBoundary}}
+use Rattle.std.proofs.Common.{◌≡◌, ℕ, suc, ◌+◌, ◌≤◌, ◌<◌, ◌^◌, ◌==◌, List, [], ◌∷◌, length, take, fold, Bool, true, false, ap, subst, ◌∙◌, arith}
+use Rattle.std.{proofs.lemmas.{List.length-take-le}, specs.{Prelude.if◌then◌else◌, Str.IsCharBoundary}}
 use Rattle.rnix_text.specs.declared.line_column.{ColumnUnit.TheVariants.Chars, Position.Position}
 use Rattle.rnix_text.{specs.Positions.{newline, weight, origin, step, position_at}, proofs.ByteSteps.column_bound}
 use Rattle.rnix_text.specs.TextColumns.{Counted}

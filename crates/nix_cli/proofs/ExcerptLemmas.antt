@@ -1,5 +1,5 @@
 -- How texts with only simple characters are shown.
-use Rattle.std.proofs.Common.{◌≡◌, ℕ, ◌+◌, ◌<◌, ◌≤◌, Bool, true, false, List, [], ◌∷◌, ◌++◌, length, take, get_or, refl, ap, sym, ◌∙◌, arith, suc, inl, inr, subst}
+use Rattle.std.proofs.Common.{◌≡◌, ℕ, ◌+◌, ◌<◌, ◌≤◌, Bool, true, false, List, [], ◌∷◌, ◌++◌, length, take, get_or, refl, ap, sym, ◌∙◌, arith, suc, inl, inr}
 use Rattle.std.proofs.lemmas.{List.{take_all, get_or_past, take-replicate}, List.Sums.prefix_len_passes, Str.{chars-IsAscii, encode_ascii}, Bool.{cases_lt, Decides.nat_tests}}
 use Rattle.std.specs.{Str.{chars, IsAscii}, List.{flat_map, prefix_len}, Prelude.{replicate, nat_lt, ◌==◌}, Char.encode_utf8}
 use Rattle.nix_cli.{specs.Excerpt.{is_simple, printed, shown, columns_of, spaces, carets, carets_below}, proofs.PlainRuns.{KeepsPlain, run_written}}

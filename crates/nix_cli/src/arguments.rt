@@ -2,8 +2,9 @@
 
 ghost use Rattle.std.specs.Prelude.{◌≡◌, map, option_map, bytes_eq, IfOk, OnOk, string_bytes};
 ghost use Rattle.std.specs.List.{list_any};
-ghost use Rattle.nix_cli.specs.CommandLine.{runs, nothing, is_option, color_in, with_color, with_flag_in, with_option, with_argument, and_argument, parse_from};
-ghost use Rattle.nix_cli.specs.Given.{options_of, task_of, parsed_of};
+ghost use Rattle.nix_cli.specs.CommandLine.{runs, nothing, is_option, color_in, exclude_in, with_color, with_exclude, with_value, with_flag_in};
+ghost use Rattle.nix_cli.specs.CommandLine.{with_valued, with_option, with_argument, and_argument, parse_from};
+ghost use Rattle.nix_cli.specs.Given.{options_of, task_of, awaited_of, parsed_of};
 
 use crate::ending::{FAILED, refuse};
 use std::alloc::{AllocError, Global};
@@ -35,6 +36,8 @@ pub struct Command {
     pub flags: &'static [&'static str],
     /// Whether the command has the option `--color WHEN`.
     pub has_colors: bool,
+    /// Whether the command has the option `--exclude GLOB`, which may be given several times.
+    pub has_excludes: bool,
     /// The smallest number of arguments besides options.
     pub min_words: usize,
     /// The largest number of arguments besides options.
@@ -51,6 +54,14 @@ enum Task {
     Refuse(&'static str, String),
 }
 
+// The option whose value is the next argument.
+#[derive(Clone, Copy, PartialEq, Eq)]
+enum Awaited {
+    None,
+    Color,
+    Exclude,
+}
+
 /// A parsed command line.
 #[derive(Drop)]
 pub struct Arguments {
@@ -60,9 +71,11 @@ pub struct Arguments {
     pub words: Vec<String>,
     /// The value of `--color`, if given.
     pub color: Option<String>,
-    // Whether `--` ended the options, and whether the next argument is the value of `--color`.
+    /// The values of `--exclude`.
+    pub excludes: Vec<String>,
+    // Whether `--` ended the options, and the option whose value is the next argument.
     only_words: bool,
-    is_color_next: bool,
+    awaited: Awaited,
 }
 
 /// What a command does once its command line is parsed.
@@ -103,6 +116,16 @@ fn color_in<'a>(command: &Command, option: &'a str) -> Option<&'a str>
     option.strip_prefix("--color=")
 }
 
+// Returns the value in `--exclude=VALUE`, if the command has this option.
+fn exclude_in<'a>(command: &Command, option: &'a str) -> Option<&'a str>
+    ensures { option_map (λ glob. glob.now) result ≡ exclude_in (options_of command.now) option.now }
+{
+    if !command.has_excludes {
+        return None;
+    }
+    option.strip_prefix("--exclude=")
+}
+
 impl Arguments {
     // Returns the command line without arguments.
     fn new(alloc: Global) -> Arguments
@@ -113,8 +136,9 @@ impl Arguments {
             flags: Vec::new(alloc),
             words: Vec::new(alloc),
             color: None,
+            excludes: Vec::new(alloc),
             only_words: false,
-            is_color_next: false,
+            awaited: Awaited::None,
         }
     }
 
@@ -134,12 +158,35 @@ impl Arguments {
     fn set_color(&mut self, when: String)
         ensures { parsed_of self.new ≡ with_color (string_bytes when) (parsed_of self.old) }
     {
-        self.is_color_next = false;
+        self.awaited = Awaited::None;
         let text = when.as_str();
         if text == "auto" || text == "always" || text == "never" {
             self.color = Some(when);
         } else {
             self.task = Task::Refuse("--color is auto, always or never, not", when);
+        }
+    }
+
+    // Adds a value of `--exclude`.
+    fn add_exclude(&mut self, glob: String) -> Result<(), AllocError>
+        ensures { OnOk result (parsed_of self.new ≡ with_exclude (string_bytes glob) (parsed_of self.old)) }
+    {
+        self.awaited = Awaited::None;
+        self.excludes.push(glob)?;
+        Ok(())
+    }
+
+    // Reads the value of the option that awaits one.
+    fn add_value(&mut self, value: String) -> Result<(), AllocError>
+        ensures { OnOk result (parsed_of self.new ≡ with_value (awaited_of self.old.awaited) (string_bytes value) (parsed_of self.old)) }
+    {
+        match self.awaited {
+            Awaited::Exclude => self.add_exclude(value),
+            Awaited::Color => {
+                self.set_color(value);
+                Ok(())
+            }
+            Awaited::None => Ok(()),
         }
     }
 
@@ -157,13 +204,29 @@ impl Arguments {
             return Ok(());
         }
         if command.has_colors && text == "--color" {
-            self.is_color_next = true;
+            self.awaited = Awaited::Color;
             return Ok(());
         }
+        if command.has_excludes && text == "--exclude" {
+            self.awaited = Awaited::Exclude;
+            return Ok(());
+        }
+        self.add_valued(command, option)
+    }
+
+    // Reads an option with a value after `=`, or another one.
+    fn add_valued(&mut self, command: &Command, option: String) -> Result<(), AllocError>
+        ensures { OnOk result (parsed_of self.new ≡ with_valued (options_of command.now) (string_bytes option) (parsed_of self.old)) }
+    {
+        let text = option.as_str();
         if let Some(when) = color_in(command, text) {
             let when = String::from_str(*self.words.allocator(), when)?;
             self.set_color(when);
             return Ok(());
+        }
+        if let Some(glob) = exclude_in(command, text) {
+            let glob = String::from_str(*self.words.allocator(), glob)?;
+            return self.add_exclude(glob);
         }
         self.add_flag(command, option)
     }
@@ -184,9 +247,8 @@ impl Arguments {
     fn add_argument(&mut self, command: &Command, argument: String) -> Result<(), AllocError>
         ensures { OnOk result (parsed_of self.new ≡ with_argument (options_of command.now) (string_bytes argument) (parsed_of self.old)) }
     {
-        if self.is_color_next {
-            self.set_color(argument);
-            return Ok(());
+        if self.awaited != Awaited::None {
+            return self.add_value(argument);
         }
         if is_option(argument.as_str()) && !self.only_words {
             if argument.as_str() == "--" {
@@ -206,7 +268,7 @@ impl Arguments {
     // Returns whether the task is to run, with all the words that the command needs.
     fn may_run(&self, command: &Command) -> bool {
         match self.task {
-            Task::Run => !self.is_color_next && self.words.len() >= command.min_words,
+            Task::Run => self.awaited == Awaited::None && self.words.len() >= command.min_words,
             Task::Help | Task::Version | Task::Refuse(..) => false,
         }
     }
@@ -260,8 +322,14 @@ fn version(rt: &HostRuntime, command: &Command) -> io::Result<()> {
 fn refuse_arguments(rt: &HostRuntime, command: &Command, given: &Arguments) -> io::Result<()> {
     match &given.task {
         Task::Refuse(reason, argument) => { eprintln!(rt; "{}: {reason} {argument}", command.name) }
-        _ if given.is_color_next => refuse(rt, command, "--color needs a value"),
-        _ => refuse(rt, command, "missing argument"),
+        _ => {
+            let reason = match given.awaited {
+                Awaited::Color => "--color needs a value",
+                Awaited::Exclude => "--exclude needs a value",
+                Awaited::None => "missing argument",
+            };
+            refuse(rt, command, reason)
+        }
     }
 }
 

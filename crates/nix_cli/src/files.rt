@@ -4,11 +4,10 @@ ghost use Rattle.std.specs.Prelude.{◌≡◌};
 ghost use Rattle.nix_cli.specs.MessageLocations.{display_name};
 ghost use Rattle.nix_cli.specs.Statuses.{first_status};
 
-use crate::arguments::Command;
+use crate::arguments::{Arguments, Command};
 use crate::ending::FAILED;
 use crate::file_replacement::replace_text;
-use std::alloc::AllocError;
-use std::fs::FileType;
+use crate::folders::{Links, files_below};
 use std::io::Write;
 use std::{fs, io};
 
@@ -57,109 +56,16 @@ fn kind_of(rt: &HostRuntime, name: &str) -> Kind {
     }
 }
 
-// The symbolic links in folders that count as files.
-#[derive(Clone, Copy, PartialEq, Eq)]
-enum Links {
-    // Links to regular files, and links to nothing.
-    Read,
-    // No links.
-    Skipped,
-}
-
-// The contents of a folder and the folders in it.
-#[derive(Drop)]
-struct Found {
-    // The files whose names end with `.nix`.
-    names: Vec<String>,
-    // The folders that are still to be read.
-    folders: Vec<String>,
-    // The names ending with `.nix` that were skipped, each with the reason.
-    skipped: Vec<String>,
-    // Which symbolic links count as files.
-    links: Links,
-    // Whether all of the files are regular.
-    are_regular: bool,
-}
-
-// Returns the reason for skipping a file in a folder, if there is one. Reading anything but a regular file might wait forever.
-fn reason_of(rt: &HostRuntime, name: &str, kind: FileType, links: Links) -> Option<&'static str> {
-    if kind.is_file() {
-        return None;
-    }
-    if kind.is_symlink() && links == Links::Skipped {
-        return Some("a symbolic link");
-    }
-    match fs::metadata(rt, name) {
-        Ok(data) if !data.is_file() => Some("not a regular file"),
-        Ok(_) | Err(_) => None,
-    }
-}
-
-// Adds a file in a folder, unless it is skipped.
-fn add_file(
-    rt: &HostRuntime,
-    name: String,
-    kind: FileType,
-    found: &mut Found,
-) -> Result<(), AllocError> {
-    match reason_of(rt, name.as_str(), kind, found.links) {
-        Some(reason) => {
-            let message = format!(in rt.alloc(); "{name}: {reason}, passed over")?;
-            found.skipped.push(message)?;
-        }
-        None => {
-            found.names.push(name)?;
-            found.are_regular = found.are_regular && kind.is_file();
-        }
-    }
-    Ok(())
-}
-
-// Adds the contents of a folder. Links to folders are not followed.
-fn list(rt: &HostRuntime, folder: &str, found: &mut Found) -> io::Result<()> {
-    for entry in fs::read_dir(rt, folder)? {
-        let entry = entry?;
-        let name = String::from_str(rt.alloc(), entry.path().as_str())?;
-        let kind = entry.file_type()?;
-        if kind.is_dir() {
-            found.folders.push(name)?;
-        } else if name.ends_with(".nix") {
-            add_file(rt, name, kind, found)?;
-        }
-    }
-    Ok(())
-}
-
-// Returns the contents of a folder and the folders in it, sorted.
-fn files_below(rt: &HostRuntime, folder: &str, links: Links) -> io::Result<Found> {
-    let mut found = Found {
-        names: Vec::new(rt.alloc()),
-        folders: Vec::new(rt.alloc()),
-        skipped: Vec::new(rt.alloc()),
-        links,
-        are_regular: true,
-    };
-    found.folders.push(String::from_str(rt.alloc(), folder)?)?;
-    for _folder in 0..u64::MAX {
-        let Some(next) = found.folders.pop() else {
-            break;
-        };
-        list(rt, next.as_str(), &mut found)?;
-    }
-    found.names.sort()?;
-    found.skipped.sort()?;
-    Ok(found)
-}
-
 // Adds the files in a folder and the folders in it, and reports what is skipped there. A folder that cannot be read is reported and counted.
 fn add_folder(
     rt: &HostRuntime,
     command: &Command,
     folder: &str,
+    excludes: &[String],
     links: Links,
     inputs: &mut Inputs,
 ) -> io::Result<()> {
-    let below = match files_below(rt, folder, links) {
+    let below = match files_below(rt, folder, excludes, links) {
         Ok(below) => below,
         Err(error) => {
             inputs.files.failed = inputs.files.failed.saturating_add(1);
@@ -175,24 +81,30 @@ fn add_folder(
 }
 
 /// Returns the files that a command replaces: those of [`find_inputs`], except that symbolic links in folders are skipped and reported.
-pub fn find_files(rt: &HostRuntime, command: &Command, names: &[String]) -> io::Result<Files> {
-    Ok(inputs_of(rt, command, names, Links::Skipped)?.files)
+pub fn find_files(rt: &HostRuntime, command: &Command, arguments: &Arguments) -> io::Result<Files> {
+    Ok(inputs_of(rt, command, arguments, Links::Skipped)?.files)
 }
 
 /// Returns the files that the arguments name, for [`TextReader::read_text`]. `-` and no names mean standard input. A folder means the regular files in it, and
 /// in the folders in it, whose names end with `.nix`, and symbolic links with such names to regular files or to nothing; anything else with such a name is
-/// skipped and reported. Any other name is a file. A folder that cannot be read is reported and counted.
-pub fn find_inputs(rt: &HostRuntime, command: &Command, names: &[String]) -> io::Result<Inputs> {
-    inputs_of(rt, command, names, Links::Read)
+/// skipped and reported. What `.gitignore` files or `--exclude` name is left out. Any other name is a file. A folder that cannot be read is reported and
+/// counted.
+pub fn find_inputs(
+    rt: &HostRuntime,
+    command: &Command,
+    arguments: &Arguments,
+) -> io::Result<Inputs> {
+    inputs_of(rt, command, arguments, Links::Read)
 }
 
 // Returns the files that the arguments name.
 fn inputs_of(
     rt: &HostRuntime,
     command: &Command,
-    names: &[String],
+    arguments: &Arguments,
     links: Links,
 ) -> io::Result<Inputs> {
+    let names = &arguments.words;
     let mut inputs = Inputs {
         files: Files {
             names: Vec::new(rt.alloc()),
@@ -207,7 +119,8 @@ fn inputs_of(
     for name in names {
         let kind = kind_of(rt, name.as_str());
         if kind == Kind::Folder {
-            add_folder(rt, command, name.as_str(), links, &mut inputs)?;
+            let excludes = &arguments.excludes;
+            add_folder(rt, command, name.as_str(), excludes, links, &mut inputs)?;
         } else {
             inputs.files.names.push(name.clone()?)?;
             inputs.are_regular = inputs.are_regular && kind == Kind::Regular;

@@ -13,15 +13,17 @@ pub const COMMAND: Command = Command {
     help: "
 Prints the names bound by let and the parameters that are never used, except those that start with _ and the entries of a pattern
 whose own name is used, as in args@{ a }: args.a. Without an entry, callers may no longer pass the argument if the pattern has no `...`.
-A folder stands for all files in it and below that end with .nix; - and no FILE mean standard input.
+A folder stands for all files in it and below that end with .nix, except those that a .gitignore leaves out; - and no FILE mean standard input.
 
     --json     print each name as a line of JSON
+    --exclude GLOB  leave out what GLOB names in a folder, as a line of a .gitignore there does; may be given several times
 ",
     statuses: "
 Ends with 0 if all names are used, 1 if some are not, 2 if a file has a syntax error, or something could not be read or written.
 ",
     flags: &["--json"],
     has_colors: false,
+    has_excludes: true,
     min_words: 0,
     max_words: usize::MAX,
 };
@@ -29,7 +31,7 @@ Ends with 0 if all names are used, 1 if some are not, 2 if a file has a syntax e
 // Writes the unused names of the files that the command line names, and returns the highest exit status.
 fn report_named(rt: &HostRuntime, arguments: &Arguments) -> io::Result<u8> {
     let mut out = BufWriter::new(rt.alloc(), rt.stdout())?;
-    let inputs = find_inputs(rt, &COMMAND, &arguments.words)?;
+    let inputs = find_inputs(rt, &COMMAND, arguments)?;
     let status = report_files(
         rt,
         &inputs,

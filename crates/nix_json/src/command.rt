@@ -28,6 +28,7 @@ Ends with 0, with 1 if the text is refused or has no such PATH, or with 2 if som
 ",
     flags: &["--lossy", "--to-nix"],
     has_colors: false,
+    has_excludes: false,
     min_words: 0,
     max_words: 2,
 };

@@ -17,15 +17,17 @@ pub const COMMAND: Command = Command {
     usage: &["[OPTION..] [FILE..]"],
     help: "
 Prints a line for each name that a let, a rec set or a function binds, and for each name that is used, with the place of its binding. A folder
-stands for all files in it and below that end with .nix; - and no FILE mean standard input.
+stands for all files in it and below that end with .nix, except those that a .gitignore leaves out; - and no FILE mean standard input.
 
     --json     print each line as JSON
+    --exclude GLOB  leave out what GLOB names in a folder, as a line of a .gitignore there does; may be given several times
 ",
     statuses: "
 Ends with 0, or with 2 if a file has a syntax error, or something could not be read or written.
 ",
     flags: &["--json"],
     has_colors: false,
+    has_excludes: true,
     min_words: 0,
     max_words: usize::MAX,
 };
@@ -65,7 +67,7 @@ fn report<W: Write>(
 // Writes the names of the files that the command line names, and returns the highest exit status.
 fn report_files(rt: &HostRuntime, arguments: &Arguments) -> io::Result<u8> {
     let mut out = BufWriter::new(rt.alloc(), rt.stdout())?;
-    let inputs = find_inputs(rt, &COMMAND, &arguments.words)?;
+    let inputs = find_inputs(rt, &COMMAND, arguments)?;
     let is_json = arguments.has("--json");
     let mut status = inputs.files.status();
     for file in &inputs.files.names {

@@ -23,6 +23,7 @@ Ends with 0, or with 2 if something could not be read or written, or is too long
 ",
     flags: &[],
     has_colors: false,
+    has_excludes: false,
     min_words: 0,
     max_words: 1,
 };

@@ -26,6 +26,7 @@ Ends with 0, with 1 if the name cannot be renamed so, or with 2 if the text is n
 ",
     flags: &["-i"],
     has_colors: false,
+    has_excludes: false,
     min_words: 3,
     max_words: 3,
 };

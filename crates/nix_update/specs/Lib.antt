@@ -9,3 +9,4 @@ pub mod SpecialNames
 pub mod Updated
 pub mod NotUpdated
 pub mod Results
+pub mod OfRequest

@@ -1,10 +1,11 @@
 //! Adding an attribute.
 
-ghost use Rattle.std.specs.Prelude.{◌≡◌, false, drop, map, string_bytes, IfOk, IfSome, IfNone};
+ghost use Rattle.std.specs.Prelude.{◌≡◌, false, drop, string_bytes, IfOk, IfSome, IfNone};
 ghost use Rattle.nix_update.specs.SameNames.{HasNoOpenName, no_range};
 ghost use Rattle.nix_update.specs.SpecialNames.{HasNoSpecialName};
-ghost use Rattle.nix_update.specs.Updated.{IfMade, IsRest, IsEntryAdded, IsAddedTo, IsAdded, IsMeaningKeptWith};
-ghost use Rattle.nix_update.specs.NotUpdated.{IfRefused, HasNoRest, IsEntryRefused, IsAdditionRefused, IsNotAddedTo, IsNotAdded};
+ghost use Rattle.nix_update.specs.OfRequest.{names_at, IsRefusedWith, IsAddedAt, IsNotAddedAt, IsAddedFor, IsNotAddedFor};
+ghost use Rattle.nix_update.specs.Updated.{IfMade, IsRest, IsEntryAdded, IsMeaningKeptWith};
+ghost use Rattle.nix_update.specs.NotUpdated.{IfRefused, HasNoRest, IsEntryRefused};
 
 use crate::change::add_value;
 use crate::guard::{Site, addition_refusal};
@@ -59,10 +60,9 @@ fn accept_added(
 ) -> Result<Attempt, AllocError>
     ensures made { IfOk result (IfMade (λ text. (text ≡ string_bytes made)
         × (is_forced ≡ false → IsMeaningKeptWith site.entry.text.now site.entry.root.now site.entry.set.now text)
-        × (is_forced ≡ false → HasNoOpenName site.entry.root.now no_range (drop site.entry.at (map string_bytes site.entry.names.now)))
-        × (is_forced ≡ false → HasNoSpecialName (map string_bytes site.entry.names.now) site.entry.steps.now))) }
-    ensures refused { IfOk result (IfRefused (λ why. (is_forced ≡ false) × IsAdditionRefused (map string_bytes site.entry.names.now) site.entry.steps.now
-        site.entry.at site.entry.text.now site.entry.root.now site.entry.set.now (string_bytes made) why)) }
+        × (is_forced ≡ false → HasNoOpenName site.entry.root.now no_range (drop site.entry.at (names_at site.entry)))
+        × (is_forced ≡ false → HasNoSpecialName (names_at site.entry) site.entry.steps.now))) }
+    ensures refused { IfOk result (IfRefused (λ why. (is_forced ≡ false) × IsRefusedWith site.entry (string_bytes made) why)) }
 {
     if is_forced {
         return Ok(Attempt::Made(made));
@@ -83,10 +83,8 @@ fn add_to(
     update: Update<'_>,
     target: &PathStep<'_>,
 ) -> Result<Attempt, AllocError>
-    ensures made { IfOk result (IfMade (IsAddedTo update.entry.is_forced update.entry.form update.entry.value.now path.now.text.now path.now.starts.items
-        (map string_bytes path.now.names.items) steps.now target.now text.now root.now)) }
-    ensures refused { IfOk result (IfRefused (IsNotAddedTo update.entry.is_forced update.entry.form update.entry.value.now path.now.text.now
-        path.now.starts.items (map string_bytes path.now.names.items) steps.now target.now text.now root.now)) }
+    ensures made { IfOk result (IfMade (IsAddedAt update.entry path.now steps.now target.now text.now root.now)) }
+    ensures refused { IfOk result (IfRefused (IsNotAddedAt update.entry path.now steps.now target.now text.now root.now)) }
 {
     let Some(names) = rest_at(path, target.at) else {
         return Ok(Attempt::Refused(refuse(Reason::NotAPath)));
@@ -115,10 +113,8 @@ pub fn add(
     steps: &[PathStep<'_>],
     update: Update<'_>,
 ) -> Result<Attempt, AllocError>
-    ensures made { IfOk result (IfMade (IsAdded update.entry.is_forced update.entry.form update.entry.value.now path.now.text.now path.now.starts.items
-        (map string_bytes path.now.names.items) steps.now text.now root.now)) }
-    ensures refused { IfOk result (IfRefused (IsNotAdded update.entry.is_forced update.entry.form update.entry.value.now path.now.text.now
-        path.now.starts.items (map string_bytes path.now.names.items) steps.now text.now root.now)) }
+    ensures made { IfOk result (IfMade (IsAddedFor update.entry path.now steps.now text.now root.now)) }
+    ensures refused { IfOk result (IfRefused (IsNotAddedFor update.entry path.now steps.now text.now root.now)) }
 {
     let sets = insertion_sets(alloc, steps)?;
     let Some(target) = sets.first() else {

@@ -40,6 +40,7 @@ if something cannot be read or written.
 ",
     flags: &["--raw", "--list", "--add", "--remove", "--force", "-i"],
     has_colors: false,
+    has_excludes: false,
     min_words: 1,
     max_words: 3,
 };

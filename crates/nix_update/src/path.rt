@@ -51,7 +51,8 @@ fn path_in<'p>(
         ≡ map Some (map string_bytes path.names.items))) }
     ensures starts { IfOk result (λ path. IfSome path (λ path. map (λ attr. (item_of attr).start - 1) (nodes_of is_attr attrpath.now)
         ≡ path.starts.items)) }
-    ensures none { IfOk result (λ path. IfNone path ((names : List (List ℕ)) → ¬ (map static_name (nodes_of is_attr attrpath.now) ≡ map Some names))) }
+    ensures none { IfOk result (λ path. IfNone path ((names : List (List ℕ)) →
+        ¬ (map static_name (nodes_of is_attr attrpath.now) ≡ map Some names))) }
 {
     let mut names = Vec::new(alloc);
     let mut starts = Vec::new(alloc);

@@ -4,8 +4,9 @@ ghost use Rattle.std.specs.Prelude.{◌≡◌, false, drop, map, string_bytes, I
 ghost use Rattle.rnix_green.specs.Tree.{extent_of};
 ghost use Rattle.nix_update.specs.SameNames.{HasNoOpenName};
 ghost use Rattle.nix_update.specs.SpecialNames.{HasNoSpecialName};
+ghost use Rattle.nix_update.specs.OfRequest.{names_at, IsRefusedWithout};
 ghost use Rattle.nix_update.specs.Updated.{IfMade, IsEntryRemoved, IsMeaningKeptWithout};
-ghost use Rattle.nix_update.specs.NotUpdated.{IfRefused, IsRemovalRefused, IsEntryNotRemoved};
+ghost use Rattle.nix_update.specs.NotUpdated.{IfRefused, IsEntryNotRemoved};
 
 use crate::definitions::Definition;
 use crate::guard::{Site, removal_refusal};
@@ -27,10 +28,9 @@ fn accept_removed(
 ) -> Result<Attempt, AllocError>
     ensures made { IfOk result (IfMade (λ text. (text ≡ string_bytes made)
         × (is_forced ≡ false → IsMeaningKeptWithout site.entry.text.now site.entry.root.now entry.now text)
-        × (is_forced ≡ false → HasNoOpenName site.entry.root.now (extent_of entry.now) (drop site.entry.at (map string_bytes site.entry.names.now)))
-        × (is_forced ≡ false → HasNoSpecialName (map string_bytes site.entry.names.now) site.entry.steps.now))) }
-    ensures refused { IfOk result (IfRefused (λ why. (is_forced ≡ false) × IsRemovalRefused (map string_bytes site.entry.names.now) site.entry.steps.now
-        site.entry.at site.entry.text.now site.entry.root.now entry.now (string_bytes made) why)) }
+        × (is_forced ≡ false → HasNoOpenName site.entry.root.now (extent_of entry.now) (drop site.entry.at (names_at site.entry)))
+        × (is_forced ≡ false → HasNoSpecialName (names_at site.entry) site.entry.steps.now))) }
+    ensures refused { IfOk result (IfRefused (λ why. (is_forced ≡ false) × IsRefusedWithout site.entry entry.now (string_bytes made) why)) }
 {
     if is_forced {
         return Ok(Attempt::Made(made));
@@ -51,9 +51,10 @@ pub fn remove_entry(
     update: Update<'_>,
     definition: &Definition<'_>,
 ) -> Result<Attempt, AllocError>
-    ensures made { IfOk result (IfMade (IsEntryRemoved update.entry.is_forced (map string_bytes names.now) steps.now text.now root.now definition.now)) }
-    ensures refused { IfOk result (IfRefused (IsEntryNotRemoved update.entry.is_forced (map string_bytes names.now) steps.now text.now root.now
-        definition.now)) }
+    ensures made { IfOk result (IfMade
+        (IsEntryRemoved update.entry.is_forced (map string_bytes names.now) steps.now text.now root.now definition.now)) }
+    ensures refused { IfOk result (IfRefused
+        (IsEntryNotRemoved update.entry.is_forced (map string_bytes names.now) steps.now text.now root.now definition.now)) }
 {
     let entry = &definition.entry;
     if !definition.path_match.is_removable() {

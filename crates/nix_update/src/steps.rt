@@ -43,7 +43,8 @@ fn add_value<'t>(
     entry: &SyntaxNode<'t>,
     steps: &mut Vec<PathStep<'t>>,
 ) -> Result<(), AllocError>
-    ensures { OnOk result (steps.new.items ≡ steps.old.items ++ continued_value (path_match (map string_bytes names.now) at entry.now) in_let entry.now) }
+    ensures { OnOk result (steps.new.items
+        ≡ steps.old.items ++ continued_value (path_match (map string_bytes names.now) at entry.now) in_let entry.now) }
 {
     match match_entry(alloc, names, at, entry)? {
         PathMatch::Prefix(next) => add_if(expr_at(entry, 0), next, in_let, steps),

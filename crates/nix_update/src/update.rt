@@ -2,9 +2,10 @@
 
 ghost use Rattle.std.specs.Prelude.{◌≡◌, ◌⊎◌, true, length, map, string_bytes, IfOk, IsTrue, IsFalse};
 ghost use Rattle.nix_lints.specs.Repeated.{repeated_in};
-ghost use Rattle.nix_update.specs.Updated.{IfMade, IfNew, HasNoMoreRepeated, IfUpdated, IfSetInLet, outcome_of, IsOnlySet, IsDefinitionUpdated, IsUndefinedUpdated, IsOutcome};
+ghost use Rattle.nix_update.specs.OfRequest.{names_of, IsDefinitionRefusedFor, IsUndefinedOutcome, IsUndefinedRefusedFor, IsOutcomeFor, IsAttributeRefusedFor};
+ghost use Rattle.nix_update.specs.Updated.{IfMade, IfNew, HasNoMoreRepeated, IfUpdated, IfSetInLet, outcome_of, IsOnlySet, IsDefinitionUpdated};
 ghost use Rattle.nix_update.specs.declared.outcome.Reason.TheVariants as reason;
-ghost use Rattle.nix_update.specs.NotUpdated.{IfRefused, IfNone, IsNotSetInLet, IsDefinitionRefused, IsUndefinedRefused, IsAttributeRefused};
+ghost use Rattle.nix_update.specs.NotUpdated.{IfRefused, IfNone, IsNotSetInLet};
 ghost use Rattle.nix_update.specs.Results.{HasNew, HasMoreRepeated, IsUpdated};
 
 use crate::adding::add;
@@ -49,9 +50,9 @@ fn set_in_let(
     steps: &[PathStep<'_>],
     update: Update<'_>,
 ) -> Result<Outcome, AllocError>
-    ensures set { IfOk result (IfSetInLet (IsOnlySet true update.entry (map string_bytes path.now.names.items) steps.now text.now root.now)) }
+    ensures set { IfOk result (IfSetInLet (IsOnlySet true update.entry (names_of path.now) steps.now text.now root.now)) }
     ensures no_other { IfOk result (IfUpdated (λ made. ⊥)) }
-    ensures refused { IfOk result (IfNone (IsNotSetInLet update.entry (map string_bytes path.now.names.items) steps.now text.now root.now)) }
+    ensures refused { IfOk result (IfNone (IsNotSetInLet update.entry (names_of path.now) steps.now text.now root.now)) }
 {
     let definitions = definitions_of(alloc, &path.names, steps, true)?;
     let Some(definition) = definitions.first() else {
@@ -76,10 +77,10 @@ fn update_defined(
     update: Update<'_>,
     definition: &Definition<'_>,
 ) -> Result<Attempt, AllocError>
-    ensures made { IfOk result (IfMade (IsDefinitionUpdated update.entry.action update.entry (map string_bytes names.now) steps.now text.now root.now
-        definition.now)) }
-    ensures refused { IfOk result (IfRefused (IsDefinitionRefused update.entry.action update.entry (map string_bytes names.now) steps.now text.now root.now
-        definition.now)) }
+    ensures made { IfOk result (IfMade (IsDefinitionUpdated update.entry.action update.entry
+        (map string_bytes names.now) steps.now text.now root.now definition.now)) }
+    ensures refused { IfOk result (IfRefused
+        (IsDefinitionRefusedFor update.entry (map string_bytes names.now) steps.now text.now root.now definition.now)) }
 {
     match update.action {
         Action::Remove => remove_entry(alloc, text, root, names, steps, update, definition),
@@ -96,10 +97,8 @@ fn update_undefined(
     steps: &[PathStep<'_>],
     update: Update<'_>,
 ) -> Result<Outcome, AllocError>
-    ensures made { IfOk result (IsUndefinedUpdated update.entry (map string_bytes path.now.names.items) path.now.text.now path.now.starts.items
-        steps.now text.now root.now) }
-    ensures refused { IfOk result (IfNone (IsUndefinedRefused update.entry.action update.entry (map string_bytes path.now.names.items)
-        path.now.text.now path.now.starts.items steps.now text.now root.now)) }
+    ensures made { IfOk result (IsUndefinedOutcome update.entry path.now steps.now text.now root.now) }
+    ensures refused { IfOk result (IfNone (IsUndefinedRefusedFor update.entry path.now steps.now text.now root.now)) }
 {
     match update.action {
         Action::Remove => Ok(Outcome::Refused(refuse_none(steps, root))),
@@ -130,10 +129,8 @@ fn update_in(
     steps: &[PathStep<'_>],
     update: Update<'_>,
 ) -> Result<Outcome, AllocError>
-    ensures made { IfOk result (IsOutcome update.entry (map string_bytes path.now.names.items) path.now.text.now path.now.starts.items
-        steps.now text.now root.now) }
-    ensures refused { IfOk result (IfNone (IsAttributeRefused update.entry (map string_bytes path.now.names.items) path.now.text.now path.now.starts.items
-        steps.now text.now root.now)) }
+    ensures made { IfOk result (IsOutcomeFor update.entry path.now steps.now text.now root.now) }
+    ensures refused { IfOk result (IfNone (IsAttributeRefusedFor update.entry path.now steps.now text.now root.now)) }
 {
     let definitions = definitions_of(alloc, &path.names, steps, false)?;
     let Some(definition) = definitions.first() else {

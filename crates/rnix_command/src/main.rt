@@ -27,6 +27,7 @@ Checks, formats and changes Nix files. Each command has its own help: rnix help 
     statuses: "",
     flags: &[],
     has_colors: false,
+    has_excludes: false,
     min_words: 1,
     max_words: 0,
 };

@@ -15,15 +15,17 @@ pub const COMMAND: Command = Command {
     usage: &["[OPTION..] [FILE..]"],
     help: "
 Prints the errors and the syntax tree of Nix files. Each of several files has a heading. A folder means all files in it and below that
-end with .nix; - and no FILE mean standard input.
+end with .nix, except those that a .gitignore leaves out; - and no FILE mean standard input.
 
     --json     print each file as a line of JSON
+    --exclude GLOB  leave out what GLOB names in a folder, as a line of a .gitignore there does; may be given several times
 ",
     statuses: "
 Ends with 0 if there are no errors, 1 if there are some, 2 if something could not be read or written.
 ",
     flags: &["--json"],
     has_colors: false,
+    has_excludes: true,
     min_words: 0,
     max_words: usize::MAX,
 };
@@ -69,7 +71,7 @@ fn print_file<W: Write>(
 
 // Prints the files that the command line names, and returns the worst status of all.
 fn print_files(rt: &HostRuntime, command: &Command, arguments: &Arguments) -> io::Result<u8> {
-    let inputs = find_inputs(rt, command, &arguments.words)?;
+    let inputs = find_inputs(rt, command, arguments)?;
     let files = &inputs.files;
     let (is_json, is_alone) = (arguments.has("--json"), files.names.len() == 1);
     let mut out = BufWriter::new(rt.alloc(), rt.stdout())?;

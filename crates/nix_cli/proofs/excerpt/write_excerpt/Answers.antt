@@ -1,4 +1,4 @@
-use Rattle.std.proofs.{Common.Option, lemmas.Result.on_ok_weaker}
+use Rattle.std.proofs.{lemmas.Result.on_ok_weaker}
 use Rattle.nix_cli.proofs.AppendLemmas.{SomeAppended, more_appended}
 use Rattle.nix_cli.proofs.excerpt.write_excerpt.Goals as goal
 

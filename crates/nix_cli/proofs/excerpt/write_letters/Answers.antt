@@ -1,4 +1,4 @@
-use Rattle.std.proofs.{Common.{ℕ, List, subst, sym, ap, ◌∙◌}, lemmas.{Iterator.YieldsList-from_chars, Iterator.Consumers.YieldsList-end, List.map-id, Result.on_ok_weaker}}
+use Rattle.std.proofs.{Common.{ℕ, List, subst, sym, ◌∙◌}, lemmas.{Iterator.YieldsList-from_chars, Iterator.Consumers.YieldsList-end, List.map-id, Result.on_ok_weaker}}
 use Rattle.std.specs.{List.flat_map, Io.KnownBytes.Appends}
 use Rattle.nix_cli.{specs.Excerpt.{shown}, proofs.ExcerptLemmas.simple_shown}
 use Rattle.nix_cli.proofs.excerpt.write_letters.Goals as goal

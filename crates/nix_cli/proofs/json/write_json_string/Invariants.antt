@@ -1,4 +1,4 @@
-use Rattle.std.{proofs.Common.{◌≤◌, ◌-◌, ◌∷◌, [], ◌++◌, length, take}, specs.{Prelude.codes, List.flat_map, Io.KnownBytes.Appends}}
+use Rattle.std.{proofs.Common.{◌≤◌, ◌-◌, ◌++◌, length, take}, specs.{Prelude.codes, List.flat_map, Io.KnownBytes.Appends}}
 use Rattle.nix_cli.specs.JsonString.{escape}
 use Rattle.nix_cli.proofs.json.write_json_string.Given as goal
 

@@ -1,4 +1,4 @@
-use Rattle.std.proofs.Common.{◌≡◌, arith, rules}
+use Rattle.std.proofs.Common.{arith, rules}
 use Rattle.nix_cli.proofs.CountedLocations.{location_fits}
 use Rattle.nix_cli.proofs.source.Source.position.Goals as goal
 
