@@ -1,4 +1,4 @@
-/* Prints the errors and the tree of each file, or of standard input, as nix-tree does: tree [FILE..]
+/* Prints the errors and the tree of each file, or of standard input, as `rnix tree` does: tree [FILE..]
  * It ends with 0 if no text has errors, with 1 if one has, and with 2 if something is refused. */
 #include <inttypes.h>
 #include <stdio.h>

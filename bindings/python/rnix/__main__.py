@@ -1,4 +1,4 @@
-"""Prints the errors and the tree of each file, or of standard input, as nix-tree does. Usage: python -m rnix [FILE..]
+"""Prints the errors and the tree of each file, or of standard input, as `rnix tree` does. Usage: python -m rnix [FILE..]
 
 The exit status is 0 without errors, 1 with some, and 2 if a text is refused or cannot be read.
 """

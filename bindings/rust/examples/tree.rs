@@ -1,5 +1,5 @@
 //! Usage: tree [FILE..]
-//! Prints the errors and the tree of each file, or of standard input, as nix-tree does. The exit status is 0 without errors, 1 with some, and 2 if a
+//! Prints the errors and the tree of each file, or of standard input, as `rnix tree` does. The exit status is 0 without errors, 1 with some, and 2 if a
 //! text is refused or cannot be read.
 
 use rnix::{Root, WalkEvent};

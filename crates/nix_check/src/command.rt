@@ -23,7 +23,7 @@ Prints the syntax errors of Nix files: the place, the line, what was expected th
 is reported once, unless --all is given. In files without syntax errors, two things are errors because Nix refuses them: attributes that are
 defined again, and white space that Nix refuses, such as no-break spaces. A folder stands for all files in it and below that end with .nix,
 except those that a .gitignore leaves out; - and no FILE mean standard input. The grammar is that of rnix 0.14, which differs from Nix's in a
-few places: see docs/nix.md.
+few places: the page nix.md lists them.
 
     --all      print every error of a file: also those that follow from another, and more than the first 20
     --json     print each error as a line of JSON

@@ -8,6 +8,7 @@ use crate::arguments::{Arguments, Command};
 use crate::ending::FAILED;
 use crate::file_replacement::replace_text;
 use crate::folders::{Links, files_below};
+use crate::ignores::bad_exclude;
 use std::io::Write;
 use std::{fs, io};
 
@@ -56,7 +57,16 @@ fn kind_of(rt: &HostRuntime, name: &str) -> Kind {
     }
 }
 
-// Adds the files in a folder and the folders in it, and reports what is skipped there. A folder that cannot be read is reported and counted.
+// Writes messages to standard error.
+fn report_each(rt: &HostRuntime, command: &Command, messages: &[String]) -> io::Result<()> {
+    for message in messages {
+        eprintln!(rt; "{}: {message}", command.name)?;
+    }
+    Ok(())
+}
+
+// Adds the files in a folder and the folders in it, and reports what is skipped there. A folder that cannot be read, or a `.gitignore` of which cannot, is
+// reported and counted, and nothing in it is added.
 fn add_folder(
     rt: &HostRuntime,
     command: &Command,
@@ -72,12 +82,13 @@ fn add_folder(
             return eprintln!(rt; "{}: {folder}: {error}", command.name);
         }
     };
+    if !below.unread.is_empty() {
+        inputs.files.failed = inputs.files.failed.saturating_add(1);
+        return report_each(rt, command, &below.unread);
+    }
     inputs.files.names.extend(below.names)?;
     inputs.are_regular = inputs.are_regular && below.are_regular;
-    for message in &below.skipped {
-        eprintln!(rt; "{}: {message}", command.name)?;
-    }
-    Ok(())
+    report_each(rt, command, &below.skipped)
 }
 
 /// Returns the files that a command replaces: those of [`find_inputs`], except that symbolic links in folders are skipped and reported.
@@ -104,7 +115,7 @@ fn inputs_of(
     arguments: &Arguments,
     links: Links,
 ) -> io::Result<Inputs> {
-    let names = &arguments.words;
+    let (names, excludes) = (&arguments.words, &arguments.excludes);
     let mut inputs = Inputs {
         files: Files {
             names: Vec::new(rt.alloc()),
@@ -112,6 +123,12 @@ fn inputs_of(
         },
         are_regular: true,
     };
+    if let Some(number) = bad_exclude(rt.alloc(), excludes)? {
+        inputs.files.failed = 1;
+        let value = excludes.get(number).map_or("", |value| value.as_str());
+        eprintln!(rt; "{}: --exclude needs a pattern, not {value}", command.name)?;
+        return Ok(inputs);
+    }
     if names.is_empty() {
         let input = String::from_str(rt.alloc(), "-")?;
         inputs.files.names.push(input)?;
@@ -119,7 +136,6 @@ fn inputs_of(
     for name in names {
         let kind = kind_of(rt, name.as_str());
         if kind == Kind::Folder {
-            let excludes = &arguments.excludes;
             add_folder(rt, command, name.as_str(), excludes, links, &mut inputs)?;
         } else {
             inputs.files.names.push(name.clone()?)?;

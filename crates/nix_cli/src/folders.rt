@@ -31,7 +31,9 @@ pub(crate) struct Found {
     folders: Vec<Folder>,
     // What is left out.
     ignores: Ignores,
-    /// What was passed over, each with the reason: names ending with `.nix`, and `.gitignore` files that could not be read.
+    /// The `.gitignore` files that could not be read, each with the reason. Then it is not known which files are to be left out.
+    pub unread: Vec<String>,
+    /// The names ending with `.nix` that were skipped, each with the reason.
     pub skipped: Vec<String>,
     // Which symbolic links count as files.
     links: Links,
@@ -138,6 +140,7 @@ fn start_at(
         names: Vec::new(rt.alloc()),
         folders,
         ignores,
+        unread: Vec::new(rt.alloc()),
         skipped: Vec::new(rt.alloc()),
         links,
         are_regular: true,
@@ -159,7 +162,7 @@ pub(crate) fn files_below(
         list(rt, &next, &mut found)?;
     }
     found.names.sort()?;
-    found.skipped.extend(found.ignores.take_unread())?;
+    found.unread = found.ignores.take_unread();
     found.skipped.sort()?;
     Ok(found)
 }

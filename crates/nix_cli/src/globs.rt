@@ -1,5 +1,6 @@
 //! Patterns of names and paths, as the lines of a `.gitignore` have them.
 
+use crate::byte_classes::ByteClass;
 use std::alloc::{AllocError, Global};
 
 // A part of a pattern, and what it matches. No part but the last two matches a `/`, unless it is that byte.
@@ -9,8 +10,8 @@ enum Part {
     Byte(u8),
     // `?`: one byte.
     AnyByte,
-    // `[..]`: one byte in these ranges, which include their ends, or if the first is true, one outside of them.
-    Class(bool, Vec<(u8, u8)>),
+    // `[..]`: one byte of a class.
+    Class(ByteClass),
     // `*`: any bytes.
     AnyBytes,
     // `**/`: any folders, each with its `/`.
@@ -23,65 +24,53 @@ enum Part {
 #[derive(Drop)]
 pub struct Glob {
     parts: Vec<Part>,
-    // Whether the pattern is broken, and so matches nothing: a `[` is not closed, or a `\` is the last byte.
+    // Whether the pattern is broken, and so matches nothing: a class is, or a `\` is the last byte.
     is_broken: bool,
 }
 
-// Returns whether a byte is in one of some ranges.
-fn is_in_ranges(ranges: &[(u8, u8)], byte: u8) -> bool {
-    for (first, last) in ranges {
-        if *first <= byte && byte <= *last {
-            return true;
-        }
-    }
-    false
-}
-
-// Returns the byte at an offset of a class, and the offset after it. A backslash quotes the byte after it.
-fn class_byte(text: &[u8], at: usize) -> Option<(u8, usize)> {
-    let first = *text.get(at)?;
-    let next = at.checked_add(1)?;
-    if first != b'\\' {
-        return Some((first, next));
-    }
-    Some((*text.get(next)?, next.checked_add(1)?))
-}
-
-// Returns the range that begins at an offset of a class, and the offset after it: a byte, or two with `-` between them.
-fn class_range(text: &[u8], at: usize) -> Option<((u8, u8), usize)> {
-    let (first, next) = class_byte(text, at)?;
-    let after = next.checked_add(1)?;
-    if text.get(next) != Some(&b'-') || text.get(after).is_none_or(|byte| *byte == b']') {
-        return Some(((first, first), next));
-    }
-    let (last, end) = class_byte(text, after)?;
-    Some(((first, last), end))
+// Returns the number of bytes before the first one that has a meaning in patterns.
+fn plain_length(text: &[u8]) -> usize {
+    let first = text
+        .iter()
+        .position(|byte| matches!(*byte, b'*' | b'?' | b'[' | b'\\'));
+    first.unwrap_or(text.len())
 }
 
 impl Glob {
-    /// Returns the pattern of a text, in which no `/` is the first or the last byte.
-    pub fn new(alloc: Global, text: &str) -> Result<Glob, AllocError> {
+    /// Returns the pattern of a text, in which no `/` is the first or the last byte: of names, or of paths.
+    pub fn new(alloc: Global, text: &[u8], is_of_names: bool) -> Result<Glob, AllocError> {
         let mut glob = Glob {
             parts: Vec::new(alloc),
             is_broken: false,
         };
-        let text = text.as_bytes();
+        let start = if is_of_names { 0 } else { plain_length(text) };
         let mut at: usize = 0;
         for _part in 0..text.len() {
             if at >= text.len() || glob.is_broken {
                 break;
             }
-            at = glob.add_part(alloc, text, at)?;
+            at = glob.add_part(alloc, text, at, start)?;
         }
         Ok(glob)
     }
 
-    // Adds the part that begins at an offset, and returns the offset after it.
-    fn add_part(&mut self, alloc: Global, text: &[u8], at: usize) -> Result<usize, AllocError> {
+    /// Returns whether the pattern is broken, and so matches nothing.
+    pub fn is_broken(&self) -> bool {
+        self.is_broken
+    }
+
+    // Adds the part that begins at an offset, and returns the offset after it. Asterisks at the offset `start` count as if nothing preceded them.
+    fn add_part(
+        &mut self,
+        alloc: Global,
+        text: &[u8],
+        at: usize,
+        start: usize,
+    ) -> Result<usize, AllocError> {
         let next = at.saturating_add(1);
         match text.get(at) {
             Some(b'?') => self.parts.push(Part::AnyByte)?,
-            Some(b'*') => return self.add_stars(text, at),
+            Some(b'*') => return self.add_stars(text, at, start),
             Some(b'[') => return self.add_class(alloc, text, next),
             Some(b'\\') => match text.get(next) {
                 Some(byte) => {
@@ -97,7 +86,7 @@ impl Glob {
     }
 
     // Adds the part of the asterisks that begin at an offset, and returns the offset after it. Two or more mean folders where they are a whole name.
-    fn add_stars(&mut self, text: &[u8], at: usize) -> Result<usize, AllocError> {
+    fn add_stars(&mut self, text: &[u8], at: usize, start: usize) -> Result<usize, AllocError> {
         let mut end = at;
         for _star in at..text.len() {
             if text.get(end) != Some(&b'*') {
@@ -105,11 +94,11 @@ impl Glob {
             }
             end = end.saturating_add(1);
         }
-        let is_start = at == 0 || text.get(at.saturating_sub(1)) == Some(&b'/');
-        let is_run = end.saturating_sub(at) > 1;
-        if is_run && is_start && end == text.len() {
+        let is_first = at == start || text.get(at.saturating_sub(1)) == Some(&b'/');
+        let is_whole = is_first && end.saturating_sub(at) > 1;
+        if is_whole && end == text.len() {
             self.parts.push(Part::AllBelow)?;
-        } else if is_run && is_start && text.get(end) == Some(&b'/') {
+        } else if is_whole && text.get(end) == Some(&b'/') {
             self.parts.push(Part::AnyFolders)?;
             return Ok(end.saturating_add(1));
         } else {
@@ -120,23 +109,12 @@ impl Glob {
 
     // Adds the class whose first byte has an offset, and returns the offset after it.
     fn add_class(&mut self, alloc: Global, text: &[u8], at: usize) -> Result<usize, AllocError> {
-        let is_negated = matches!(text.get(at), Some(b'!' | b'^'));
-        let first = if is_negated { at.saturating_add(1) } else { at };
-        let mut ranges = Vec::new(alloc);
-        let mut end = first;
-        for _range in first..text.len() {
-            if end > first && text.get(end) == Some(&b']') {
-                self.parts.push(Part::Class(is_negated, ranges))?;
-                return Ok(end.saturating_add(1));
-            }
-            let Some((range, next)) = class_range(text, end) else {
-                break;
-            };
-            ranges.push(range)?;
-            end = next;
-        }
-        self.is_broken = true;
-        Ok(text.len())
+        let Some((class, end)) = ByteClass::read(alloc, text, at)? else {
+            self.is_broken = true;
+            return Ok(text.len());
+        };
+        self.parts.push(Part::Class(class))?;
+        Ok(end)
     }
 
     // Marks a position as reached, and those after it that are reached with no more bytes.
@@ -158,8 +136,7 @@ impl Glob {
         match self.parts.get(position) {
             Some(Part::Byte(own)) if *own == byte => self.enter(next, reached),
             Some(Part::AnyByte) if is_name_byte => self.enter(next, reached),
-            Some(Part::Class(is_negated, ranges))
-                if is_name_byte && is_in_ranges(ranges, byte) != *is_negated => {
+            Some(Part::Class(class)) if is_name_byte && class.contains(byte) => {
                 self.enter(next, reached)
             }
             Some(Part::AnyBytes) if is_name_byte => self.enter(position, reached),

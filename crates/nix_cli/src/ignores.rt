@@ -38,38 +38,69 @@ pub struct Ignores {
     unread: Vec<String>,
 }
 
-// Returns a line without the spaces at its end, unless a backslash precedes one.
-fn trimmed(line: &str) -> &str {
-    let line = line.strip_suffix("\r").unwrap_or(line);
-    let kept = line.trim_end_matches(' ');
-    if kept.len() < line.len() && kept.ends_with('\\') {
-        return line.get(..kept.len().saturating_add(1)).unwrap_or(line);
+// The mark with which some editors begin a file.
+const BYTE_ORDER_MARK: &[u8] = b"\xef\xbb\xbf";
+
+// Returns a line without the spaces at its end, but for one that a backslash quotes.
+fn trimmed(line: &[u8]) -> &[u8] {
+    let line = line.strip_suffix(b"\r").unwrap_or(line);
+    let mut kept = 0;
+    let mut is_quoted = false;
+    for (at, byte) in line.iter().enumerate() {
+        if is_quoted || *byte != b' ' {
+            kept = at.saturating_add(1);
+        }
+        is_quoted = !is_quoted && *byte == b'\\';
     }
-    kept
+    line.get(..kept).unwrap_or(line)
 }
 
 // Returns the rule of a line, or None if it is blank or a comment.
-fn rule_of(alloc: Global, line: &str) -> Result<Option<Rule>, AllocError> {
+fn rule_of(alloc: Global, line: &[u8]) -> Result<Option<Rule>, AllocError> {
     let text = trimmed(line);
-    if text.is_empty() || text.starts_with('#') {
+    if text.is_empty() || text.starts_with(b"#") {
         return Ok(None);
     }
-    let (is_exception, text) = match text.strip_prefix("!") {
+    let (is_exception, text) = match text.strip_prefix(b"!") {
         Some(rest) => (true, rest),
         None => (false, text),
     };
-    let (is_of_folders, text) = match text.strip_suffix("/") {
+    let (is_of_folders, text) = match text.strip_suffix(b"/") {
         Some(rest) => (true, rest),
         None => (false, text),
     };
-    let is_of_names = !text.as_bytes().contains(&b'/');
-    let glob = Glob::new(alloc, text.strip_prefix("/").unwrap_or(text))?;
+    let is_of_names = !text.contains(&b'/');
+    let text = text.strip_prefix(b"/").unwrap_or(text);
+    let glob = Glob::new(alloc, text, is_of_names)?;
     Ok(Some(Rule {
         glob,
         is_of_names,
         is_exception,
         is_of_folders,
     }))
+}
+
+// Returns the rule of a value of `--exclude`, or None if it is no pattern. `./` at its beginning means `/`.
+fn rule_of_value(alloc: Global, value: &str) -> Result<Option<Rule>, AllocError> {
+    let line = if value.starts_with("./") {
+        value.strip_prefix(".").unwrap_or(value)
+    } else {
+        value
+    };
+    match rule_of(alloc, line.as_bytes())? {
+        Some(rule) if !rule.glob.is_broken() => Ok(Some(rule)),
+        _ => Ok(None),
+    }
+}
+
+/// Returns the number of the first value of `--exclude` that is no pattern.
+pub fn bad_exclude(alloc: Global, excludes: &[String]) -> Result<Option<usize>, AllocError> {
+    for (number, value) in excludes.iter().enumerate() {
+        if rule_of_value(alloc, value.as_str())?.is_none() {
+            return Ok(Some(number));
+        }
+    }
+    Ok(None)
 }
 
 // Returns the last part of a path.
@@ -115,14 +146,25 @@ impl Rules {
 }
 
 // Returns the rules of some lines.
-fn rules_of(alloc: Global, lines: &str) -> Result<Vec<Rule>, AllocError> {
+fn rules_of(alloc: Global, lines: &[u8]) -> Result<Vec<Rule>, AllocError> {
     let mut rules = Vec::new(alloc);
-    for line in lines.split('\n') {
+    let lines = lines.strip_prefix(BYTE_ORDER_MARK).unwrap_or(lines);
+    for line in lines.split(|byte| *byte == b'\n') {
         if let Some(rule) = rule_of(alloc, line)? {
             rules.push(rule)?;
         }
     }
     Ok(rules)
+}
+
+// Returns the lines of a `.gitignore`, or None if there is none. Like git, this does not follow a link; reading anything but a file might wait forever.
+fn lines_of(rt: &HostRuntime, file: &str) -> io::Result<Option<Vec<u8>>> {
+    match fs::symlink_metadata(rt, file) {
+        Ok(data) if data.is_file() => fs::read(rt, file).map(Some),
+        Ok(_) => Ok(None),
+        Err(error) if error.kind() == io::ErrorKind::NotFound => Ok(None),
+        Err(error) => Err(error),
+    }
 }
 
 // Returns the length of the path of the repository that a folder is in: the innermost folder around it, or itself, in which there is a `.git`.
@@ -146,8 +188,8 @@ impl Ignores {
     /// precedes the names in the folder.
     pub fn new(alloc: Global, excludes: &[String], prefix: &str) -> Result<Ignores, AllocError> {
         let mut rules = Vec::new(alloc);
-        for line in excludes {
-            if let Some(rule) = rule_of(alloc, line.as_str())? {
+        for value in excludes {
+            if let Some(rule) = rule_of_value(alloc, value.as_str())? {
                 rules.push(rule)?;
             }
         }
@@ -172,17 +214,16 @@ impl Ignores {
         above: String,
         outer: Option<usize>,
     ) -> Result<Option<usize>, AllocError> {
-        let lines = match fs::read_to_string(rt, file) {
-            Ok(lines) => lines,
+        let lines = match lines_of(rt, file) {
+            Ok(Some(lines)) => lines,
+            Ok(None) => return Ok(outer),
             Err(error) => {
-                if error.kind() != io::ErrorKind::NotFound {
-                    let message = format!(in rt.alloc(); "{file}: {error}, passed over")?;
-                    self.unread.push(message)?;
-                }
+                let message = format!(in rt.alloc(); "{file}: {error}")?;
+                self.unread.push(message)?;
                 return Ok(outer);
             }
         };
-        let rules = rules_of(rt.alloc(), lines.as_str())?;
+        let rules = rules_of(rt.alloc(), &lines)?;
         if rules.is_empty() {
             return Ok(outer);
         }

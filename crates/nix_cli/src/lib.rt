@@ -2,6 +2,7 @@
 #![tactic(auto)]
 
 mod arguments;
+mod byte_classes;
 mod colors;
 mod ending;
 mod excerpt;

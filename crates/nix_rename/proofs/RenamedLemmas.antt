@@ -3,12 +3,12 @@ use Rattle.std.proofs.Common.{◌≡◌, List, ℕ, [], ◌∷◌, length, map, 
 use Rattle.std.{proofs.lemmas.{List.length-map, Bool.{false≢true, Decides.nat_tests}}, specs.{Prelude.{◌&&◌, IfOk}, Bool.MatchBool}}
 use Rattle.{std.specs.declared.alloc.AllocError.AllocError, rnix_green.specs.Tree.{Located, extent_of}, nix_scopes.specs.declared.resolution.Binding.Binding}
 use Rattle.nix_scopes.specs.{declared.resolution.Resolution.Resolution, Alike.IsResolution, Occurrences.{IsNameAt, binding_at}}
-use Rattle.nix_rename.specs.{declared.{refusal.Refusal.Refusal, rename.Renaming.Renaming}, Renamed.{IsRead, IsNameIn, IsNoName, AreThese, ResolvesTheSame}}
+use Rattle.nix_rename.specs.{declared.{refusal.Refusal.Refusal, renaming.Renaming.Renaming}, Renamed.{IsRead, IsNameIn, IsNoName, AreThese, ResolvesTheSame}}
 use Rattle.nix_rename.specs.Refused.{is_special_name}
 use Rattle.nix_rename.specs.Renamed.{ResolvesDifferently, IsName, IsNamed, IsReason, IsReferent, IsRenamed, IsNotRenamed, IsCause, IfRenamed, IfRefused}
 use Rattle.rnix.specs.ParseResult.{Reading, root_of}
 use Rattle.nix_rename.specs.declared.refusal.Refusal.TheVariants as refusal
-use Rattle.nix_rename.specs.declared.rename.Renaming.TheVariants as renaming
+use Rattle.nix_rename.specs.declared.renaming.Renaming.TheVariants as renaming
 
 -- a list is empty if its length is 0
 empty : {X : Type 0} (xs : List X) → length xs ≡ 0 → xs ≡ []

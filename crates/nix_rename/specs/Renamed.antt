@@ -16,8 +16,8 @@ use Rattle.nix_scopes.specs.Occurrences.{IsNameAt, binding_at, occurrences_of}
 use Rattle.nix_scopes.specs.Alike.{IsResolution, AreAlike, rename_in}
 use Rattle.nix_rename.specs.declared.refusal.Refusal.{Refusal}
 use Rattle.nix_rename.specs.declared.refusal.Refusal.TheVariants as refusal
-use Rattle.nix_rename.specs.declared.rename.Renaming.{Renaming}
-use Rattle.nix_rename.specs.declared.rename.Renaming.TheVariants as renaming
+use Rattle.nix_rename.specs.declared.renaming.Renaming.{Renaming}
+use Rattle.nix_rename.specs.declared.renaming.Renaming.TheVariants as renaming
 use Rattle.nix_rename.specs.Refused.{is_special_name, obstacle_of_binding}
 use Rattle.nix_rename.specs.Changed.{IsChanged, IsUnchangeable}
 

@@ -1,6 +1,6 @@
 //! The command `rnix rename`.
 
-use crate::rename::{Renaming, rename};
+use crate::renaming::{Renaming, rename};
 use nix_cli::{
     Arguments, Command, FAILED, FOUND, Start, display_name, end, location_of, read_arguments,
     read_text, refuse, write_text,

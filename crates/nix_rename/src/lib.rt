@@ -4,8 +4,8 @@
 
 mod command;
 mod refusal;
-mod rename;
+mod renaming;
 
 pub use command::run;
 pub use refusal::{Obstacle, Refusal};
-pub use rename::{Renaming, rename};
+pub use renaming::{Renaming, rename};

@@ -1,6 +1,6 @@
 use Rattle.{std.{proofs.{Common.{◌∙◌, ap, sym, None, Some}, lemmas.Bool.Decides.when_true}, specs.Prelude.option_map}, nix_rename.specs.Renamed.IsName}
 use Rattle.nix_rename.{specs.Renamed.IsNoName, proofs.RenamedLemmas.{referent, renamed_from, refused_from}}
-use Rattle.nix_rename.proofs.rename.rename.Goals as goal
+use Rattle.nix_rename.proofs.renaming.rename.Goals as goal
 
 pub returns-in_default-binding_at-clause-refused : goal.returns-in_default-binding_at-clause-refused
 returns-in_default-binding_at-clause-refused c = (

@@ -1,7 +1,7 @@
 use Rattle.{std.proofs.{Common.{rules, ◌≡◌, ◌+◌, ◌++◌, ◌∙◌, [], ◌∷◌, true, map, take, ap, sym, subst, arith}, lemmas.List.{get_or-map, length-map, map_more, take-map}}, rnix_green.specs.Range.bounds_of}
 use Rattle.nix_rename.specs.Changed.{IsOccurrenceTested}
 use Rattle.nix_rename.proofs.ChangedLemmas.{draft_more, unchangeable_found}
-use Rattle.nix_rename.proofs.rename.changed.Goals as goal
+use Rattle.nix_rename.proofs.renaming.changed.Goals as goal
 
 pub returns-then-not-branch-clause-unchanged : goal.returns-then-not-branch-clause-unchanged
 returns-then-not-branch-clause-unchanged c =
