@@ -220,6 +220,35 @@ class Features(unittest.TestCase):
         self.assertIsNone(self.client.at("hover", find("license")))
         self.assertIsNone(self.client.at("hover", find("A package")))
 
+    def test_hover_shows_the_manual_on_what_nix_binds(self):
+        self.client.change("x: [ (map x) builtins.mapAttrs (let builtins = x; in builtins.mapAttrs) x.builtins.mapAttrs (map: map) builtins.storeDir ]")
+        shown = lambda column: (self.client.at("hover", (0, column)) or {"contents": {"value": None}})["contents"]["value"]
+        self.assertTrue(shown(6).startswith("```nix\nmap f list\n```\n\nBound by Nix\n\nApply the function *f* to each element in the list *list*."))
+        self.assertTrue(shown(24).startswith("```nix\nmapAttrs f attrset\n```\n\nBound by Nix\n\nApply function *f* to every element of *attrset*."))
+        self.assertTrue(shown(14).startswith("```nix\nbuiltins\n```"))
+        for column in 65, 87:
+            self.assertIsNone(shown(column))
+        self.assertIn("A parameter", shown(101))
+        self.assertEqual(shown(118), "```nix\nstoreDir\n```\n\nBound by Nix")
+
+    def test_completion_lists_the_attributes_of_builtins(self):
+        def items(text):
+            at = text.index("|")
+            text = text.replace("|", "")
+            self.client.change(text)
+            return {it["label"]: it for it in self.client.at("completion", position_of(text, at))["items"]}
+
+        for text in ["builtins.|", "builtins.ma|", "x: { y = builtins . | ; }", "[ builtins.|map ]", "a builtins.| b"]:
+            found = items(text)
+            self.assertEqual(len(found), 111, text)
+            self.assertEqual(found["map"]["detail"], "map f list")
+            self.assertIn("Apply the function *f*", found["map"]["documentation"]["value"])
+            self.assertNotIn("documentation", found["storeDir"])
+        self.assertEqual(span(items("builtins.ma|")["map"]["textEdit"]), (0, 9, 0, 11))
+        for text in ["let builtins = 1; in builtins.|", "builtins: builtins.|", "x: x.builtins.|", "builtins.map.|", "{ builtins.| }", "builtins ? |"]:
+            self.assertEqual(items(text), {}, text)
+        self.assertIn("Apply the function *f*", items("ma|")["map"]["documentation"]["value"])
+
     def test_completion_lists_the_names_in_scope(self):
         def labels(text):
             at = text.index("|")

@@ -1,8 +1,9 @@
-//! The names in scope where the cursor is.
+//! The names in scope where the cursor is, and after `builtins.` its attributes.
 
+use super::builtins::{builtin, builtins, is_builtins, Builtin};
 use super::globals::GLOBALS;
 use crate::analysis::{name_text, Analysis};
-use crate::json::{array, object, Value};
+use crate::json::{array, object, object_of, Value};
 use crate::protocol::Outcome;
 use crate::request::Request;
 use rnix::ast::Inherit;
@@ -34,6 +35,7 @@ struct Item {
     label: String,
     kind: usize,
     detail: String,
+    text: Option<&'static str>,
     distance: usize,
 }
 
@@ -217,6 +219,7 @@ fn items(request: &Request, place: &Place) -> Vec<Item> {
                 label: name,
                 kind,
                 detail,
+                text: None,
                 distance,
             });
         }
@@ -227,23 +230,59 @@ fn items(request: &Request, place: &Place) -> Vec<Item> {
             label,
             kind: kind_of_global(name),
             detail,
+            text: builtin(name).and_then(|it| it.text.as_deref()),
             distance: distance + 1,
         });
     }
     items
 }
 
-fn shown(request: &Request, place: &Place, item: Item) -> Value {
-    let edit = object([
-        ("range", request.range(place.word)),
-        ("newText", item.label.as_str().into()),
-    ]);
-    object([
-        ("sortText", format!("{:04}{}", item.distance, item.label).into()),
-        ("label", item.label.into()),
-        ("kind", item.kind.into()),
-        ("detail", item.detail.into()),
-        ("textEdit", edit),
+// The range of what has been typed of an attribute of `builtins`.
+fn builtins_word(analysis: &Analysis, offset: TextSize) -> Option<TextRange> {
+    let left = analysis
+        .tokens_at(offset)
+        .next()
+        .filter(|token| token.text_range().start() < offset)?;
+    let is_typed = is_word(&left);
+    let start = if is_typed { left.text_range().start() } else { offset };
+    let dot = if is_typed || left.kind().is_trivia() {
+        item_before(&left)?
+    } else {
+        left
+    };
+    let before = Some(&dot)
+        .filter(|dot| dot.kind() == SyntaxKind::TOKEN_DOT)
+        .and_then(item_before)?;
+    is_builtins(analysis, &before.parent()?).then(|| TextRange::new(start, offset))
+}
+
+fn item_of(builtin: &'static Builtin) -> Item {
+    Item {
+        label: builtin.name.clone(),
+        kind: kind_of_global(&builtin.name),
+        detail: builtin.signature.clone().unwrap_or_else(|| "bound by Nix".to_owned()),
+        text: builtin.text.as_deref(),
+        distance: 0,
+    }
+}
+
+fn shown(request: &Request, word: TextRange, item: Item) -> Value {
+    let edit = object([("range", request.range(word)), ("newText", item.label.as_str().into())]);
+    let kind = if request.client.takes_markdown {
+        "markdown"
+    } else {
+        "plaintext"
+    };
+    let text = item
+        .text
+        .map(|text| object([("kind", kind.into()), ("value", text.into())]));
+    object_of([
+        ("sortText", Some(format!("{:04}{}", item.distance, item.label).into())),
+        ("label", Some(item.label.into())),
+        ("kind", Some(item.kind.into())),
+        ("detail", Some(item.detail.into())),
+        ("documentation", text),
+        ("textEdit", Some(edit)),
     ])
 }
 
@@ -252,7 +291,12 @@ fn shown(request: &Request, place: &Place, item: Item) -> Value {
 /// # Errors
 /// The parameters name no position.
 pub fn completions(request: &Request) -> Outcome {
-    let place = place_at(request.analysis, request.offset()?);
+    let offset = request.offset()?;
+    if let Some(word) = builtins_word(request.analysis, offset) {
+        let items = builtins().iter().map(|it| shown(request, word, item_of(it)));
+        return Ok(object([("isIncomplete", false.into()), ("items", array(items))]));
+    }
+    let place = place_at(request.analysis, offset);
     let mut items = place.as_ref().map_or_else(Vec::new, |place| items(request, place));
     let is_long = items.len() > MOST;
     if let (true, Some(place)) = (is_long, &place) {
@@ -263,7 +307,7 @@ pub fn completions(request: &Request) -> Outcome {
     let items = place.iter().flat_map(|place| {
         std::mem::take(&mut items)
             .into_iter()
-            .map(move |item| shown(request, place, item))
+            .map(move |item| shown(request, place.word, item))
     });
     Ok(object([("isIncomplete", is_long.into()), ("items", array(items))]))
 }

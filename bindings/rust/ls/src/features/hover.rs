@@ -1,10 +1,11 @@
-//! Where a name is bound, and the comment there.
+//! Where a name is bound, and the comment there; of what Nix binds, what its manual says.
 
+use super::builtins::{builtin, is_builtins, Builtin};
 use super::comments::comment_before;
 use super::globals::is_global;
 use crate::analysis::{name_text, Name};
 use crate::json::{object, Value};
-use crate::protocol::Outcome;
+use crate::protocol::{Failure, Outcome};
 use crate::request::Request;
 use rnix::scopes::{Binding, Reference};
 use rnix::{SyntaxKind, SyntaxNode};
@@ -62,10 +63,35 @@ fn parts(request: &Request, name: &Name) -> Option<(String, String, Option<Strin
     let number = analysis.bound_to(name);
     let Some(binding) = number.and_then(|number| analysis.binding(number)) else {
         let reference = analysis.reference(name.reference?)?;
-        return Some((name_text(&name.node), unbound(reference).to_owned(), None));
+        let (text, place) = (name_text(&name.node), unbound(reference).to_owned());
+        let builtin = builtin(&text).filter(|_| is_global(&text));
+        return Some(match builtin {
+            Some(builtin) => (signature(builtin), place, builtin.text.clone()),
+            None => (text, place, None),
+        });
     };
     let entry = entry_of(binding);
     Some((first_line(&entry), bound_by(request, binding), comment_before(&entry)))
+}
+
+fn signature(builtin: &Builtin) -> String {
+    builtin.signature.clone().unwrap_or_else(|| builtin.name.clone())
+}
+
+// The attribute of `builtins` at an offset, and its node.
+fn builtin_at(request: &Request) -> Result<Option<(&'static Builtin, SyntaxNode)>, Failure> {
+    let offset = request.offset()?;
+    let found = request.analysis.tokens_at(offset).find_map(|token| {
+        let name = token.parent().filter(|node| node.kind() == SyntaxKind::NODE_IDENT)?;
+        let path = name
+            .parent()
+            .filter(|node| node.first_child().as_ref() == Some(&name))?;
+        let select = path.parent().filter(|node| node.kind() == SyntaxKind::NODE_SELECT)?;
+        let set = select.first_child().filter(|set| *set != path)?;
+        let builtin = builtin(&name.to_string()).filter(|_| is_builtins(request.analysis, &set))?;
+        Some((builtin, name))
+    });
+    Ok(found)
 }
 
 /// Returns the response to `textDocument/hover`.
@@ -73,10 +99,16 @@ fn parts(request: &Request, name: &Name) -> Option<(String, String, Option<Strin
 /// # Errors
 /// The parameters name no position.
 pub fn hover(request: &Request) -> Outcome {
-    let Some(name) = request.name()? else {
-        return Ok(Value::Null);
+    let found = match builtin_at(request)? {
+        Some((builtin, node)) => Some((
+            (signature(builtin), "Bound by Nix".to_owned(), builtin.text.clone()),
+            node,
+        )),
+        None => request
+            .name()?
+            .and_then(|name| Some((parts(request, &name)?, name.node))),
     };
-    let Some((code, place, comment)) = parts(request, &name) else {
+    let Some(((code, place, comment), node)) = found else {
         return Ok(Value::Null);
     };
     let (kind, code) = if request.client.takes_markdown {
@@ -92,6 +124,6 @@ pub fn hover(request: &Request) -> Outcome {
     let contents = object([("kind", kind.into()), ("value", text.into())]);
     Ok(object([
         ("contents", contents),
-        ("range", request.range(name.node.text_range())),
+        ("range", request.range(node.text_range())),
     ]))
 }

@@ -1,6 +1,7 @@
 //! What the server can do with a document, one file for each feature.
 
 pub mod actions;
+pub mod builtins;
 pub mod classes;
 pub mod comments;
 pub mod completion;
