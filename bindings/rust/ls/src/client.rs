@@ -61,14 +61,19 @@ impl Client {
         };
         let sync = object([("openClose", true.into()), ("change", 2_usize.into())]);
         let kinds = array(["quickfix".into()]);
+        let completion = object([
+            ("resolveProvider", false.into()),
+            ("triggerCharacters", array([".".into()])),
+        ]);
         let capabilities = object([
             ("positionEncoding", encoding.into()),
             ("textDocumentSync", sync),
             ("hoverProvider", true.into()),
-            ("completionProvider", object([("resolveProvider", false.into())])),
+            ("completionProvider", completion),
             ("definitionProvider", true.into()),
             ("referencesProvider", true.into()),
             ("documentHighlightProvider", true.into()),
+            ("documentLinkProvider", object([("resolveProvider", false.into())])),
             ("documentSymbolProvider", true.into()),
             ("codeActionProvider", object([("codeActionKinds", kinds)])),
             ("renameProvider", object([("prepareProvider", true.into())])),

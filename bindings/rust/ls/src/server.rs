@@ -3,7 +3,7 @@
 use crate::client::Client;
 use crate::documents::{lost, Documents};
 use crate::features::{
-    actions, completion, diagnostics, folding, formatting, hover, navigation, rename, selection, symbols, tokens,
+    actions, completion, diagnostics, folding, formatting, hover, links, navigation, rename, selection, symbols, tokens,
 };
 use crate::json::{object, Value};
 use crate::protocol::{notification, response, uri_of, Code, Failure, Outcome};
@@ -42,6 +42,7 @@ fn feature(method: &str) -> Option<fn(&Request) -> Outcome> {
         "completion" => completion::completions,
         "definition" => navigation::definition,
         "documentHighlight" => navigation::highlights,
+        "documentLink" => links::links,
         "documentSymbol" => symbols::symbols,
         "foldingRange" => folding::folds,
         "formatting" => formatting::whole,

@@ -1,6 +1,9 @@
 //! URIs of documents. One document has many: clients may write a character as itself or as `%` and its number, in upper or lower case.
 
+use std::ffi::OsString;
 use std::fmt::Write;
+use std::os::unix::ffi::{OsStrExt, OsStringExt};
+use std::path::{Path, PathBuf};
 
 // A byte that each client may write as itself: RFC 3986 calls these unreserved.
 fn is_unreserved(byte: u8) -> bool {
@@ -65,6 +68,36 @@ pub fn canonical(uri: &str) -> String {
     made
 }
 
+/// Returns the path of the file that a URI names, if it is one of this machine.
+pub fn file_of(uri: &str) -> Option<PathBuf> {
+    let uri = canonical(uri);
+    let bytes = uri
+        .strip_prefix("file://")
+        .filter(|path| path.starts_with('/'))?
+        .as_bytes();
+    let (mut path, mut at) = (Vec::new(), 0);
+    while let Some(byte) = bytes.get(at) {
+        let found = encoded(bytes, at);
+        path.push(found.unwrap_or(*byte));
+        at += if found.is_some() { 3 } else { 1 };
+    }
+    Some(PathBuf::from(OsString::from_vec(path)))
+}
+
+/// Returns the URI of a file, if its path is absolute.
+pub fn uri_of_file(path: &Path) -> Option<String> {
+    let bytes = path.is_absolute().then(|| path.as_os_str().as_bytes())?;
+    let mut made = "file://".to_owned();
+    for byte in bytes {
+        if *byte == b'/' {
+            made.push('/');
+        } else {
+            write(*byte, &mut made);
+        }
+    }
+    Some(made)
+}
+
 /// Returns whether two URIs are of one document.
 pub fn same(one: &str, other: &str) -> bool {
     one == other || canonical(one) == canonical(other)
@@ -86,6 +119,22 @@ mod tests {
             assert!(same(spelling, spellings[0]));
         }
         assert_eq!(canonical("file:///c%3A/a%2Bb.nix"), "file:///c:/a+b.nix");
+    }
+
+    #[test]
+    fn files_have_uris_and_these_name_them() {
+        for (path, uri) in [
+            ("/a b/ä#?%.nix", "file:///a%20b/%C3%A4%23%3F%25.nix"),
+            ("/c:/a+b", "file:///c:/a+b"),
+        ] {
+            assert_eq!(uri_of_file(Path::new(path)).as_deref(), Some(uri));
+            assert_eq!(file_of(uri), Some(PathBuf::from(path)));
+            assert_eq!(canonical(uri), uri);
+        }
+        assert_eq!(file_of("FILE://localhost/a%62"), Some(PathBuf::from("/ab")));
+        assert_eq!(file_of("file://host/a"), None);
+        assert_eq!(file_of("untitled:a"), None);
+        assert_eq!(uri_of_file(Path::new("a")), None);
     }
 
     #[test]

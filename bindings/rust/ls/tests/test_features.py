@@ -1,5 +1,7 @@
 """What rnix-ls answers about documents."""
 
+import pathlib
+import tempfile
 import unittest
 
 from client import CAPABILITIES, URI, Client, applied, position_of, span
@@ -248,6 +250,27 @@ class Features(unittest.TestCase):
         for text in ["let builtins = 1; in builtins.|", "builtins: builtins.|", "x: x.builtins.|", "builtins.map.|", "{ builtins.| }", "builtins ? |"]:
             self.assertEqual(items(text), {}, text)
         self.assertIn("Apply the function *f*", items("ma|")["map"]["documentation"]["value"])
+
+    def test_paths_lead_to_the_files_that_they_name(self):
+        with tempfile.TemporaryDirectory() as room:
+            room = pathlib.Path(room).resolve() / "a b"
+            (room / "in" / "empty").mkdir(parents=True)
+            for name in "x.nix", "in/default.nix", "in/y.nix":
+                (room / name).write_text("1")
+            uri = (room / "in/open.nix").as_uri()
+            text = f"[ ./y.nix ../x.nix ./. ./empty ./none.nix {room.parent}/z.nix ./${{a}}.nix ~/y.nix ../in/../in ./y.nix/ ]"
+            self.client.open(text, uri)
+            links = self.client.at("documentLink", uri=uri)
+            names = {"./y.nix": "in/y.nix", "../x.nix": "x.nix", "./.": "in/default.nix", "../in/../in": "in/default.nix"}
+            found = {text[slice(*span(it)[1::2])]: it["target"] for it in links}
+            self.assertEqual(found, {path: (room / file).as_uri() for path, file in names.items()})
+            for path, file in names.items():
+                (place,) = self.client.at("definition", (0, text.index(path) + 2), uri)
+                self.assertEqual((place["uri"], span(place)), ((room / file).as_uri(), (0, 0, 0, 0)))
+            for path in "./none", "./empty", "./${a}", "~/y":
+                self.assertIsNone(self.client.at("definition", (0, text.index(path) + 2), uri))
+        self.client.open("[ ./y.nix ]", "untitled:Untitled-1")
+        self.assertEqual(self.client.at("documentLink", uri="untitled:Untitled-1"), [])
 
     def test_completion_lists_the_names_in_scope(self):
         def labels(text):

@@ -12,6 +12,7 @@ pub mod folding;
 pub mod formatting;
 pub mod globals;
 pub mod hover;
+pub mod links;
 pub mod navigation;
 pub mod rename;
 pub mod selection;

@@ -1,5 +1,6 @@
 //! Where a name is bound, and where it is used.
 
+use super::links;
 use crate::json::{array, object, Value};
 use crate::protocol::{Failure, Outcome};
 use crate::request::Request;
@@ -10,13 +11,13 @@ const READ: usize = 2;
 const WRITE: usize = 3;
 
 /// Returns the response to `textDocument/definition`: each part of the binding that the name refers to, or its own.
-/// A name that an `inherit` binds refers to the one that it inherits.
+/// A name that an `inherit` binds refers to the one that it inherits. For a path, this is the file that it names.
 ///
 /// # Errors
 /// The parameters name no position.
 pub fn definition(request: &Request) -> Outcome {
     let Some(name) = request.name()? else {
-        return Ok(Value::Null);
+        return links::definition(request);
     };
     let analysis = request.analysis;
     let referred = name.reference.and_then(|number| analysis.reference(number)?.binding);
