@@ -1,6 +1,6 @@
 use Rattle.{std.{proofs.{Common.{◌≡◌, ◌∙◌, [], true, sym, subst, refl, ap}, lemmas.Bool.false≢true}, specs.Bool.MatchBool}, rnix_base.specs.Select.child_of}
 use Rattle.{rnix_grammar.specs.Fault.fault_of, rnix.specs.{NodeKinds.is_expr, ParseResult.root_of}, nix_rename.specs.Renamed.is_name_whole}
-use Rattle.nix_rename.proofs.{RenamedLemmas.{both_tested, name_tested}, rename.is_name.Goals.{then-is_whole, else-is_whole}}
+use Rattle.nix_rename.proofs.{RenamedLemmas.{both_tested, name_tested}, renaming.is_name.Goals.{then-is_whole, else-is_whole}}
 use Rattle.nix_rename.proofs.renaming.is_name.Goals as goal
 
 pub returns : goal.returns

@@ -1,6 +1,6 @@
 use Rattle.{std.{proofs.{Common.{◌≡◌, ◌∙◌, ℕ, [], true, sym, subst, refl}, lemmas.Bool.false≢true}, specs.Bool.MatchBool}, rnix_grammar.specs.Fault.fault_of}
 use Rattle.{rnix.specs.ParseResult.root_of, nix_scopes.specs.Alike.{IsResolution, AreAlike, rename_in}, nix_rename.{specs.Renamed.AreThese, proofs.RenamedLemmas.both_tested}}
-use Rattle.nix_rename.proofs.{RenamedLemmas.resolved_tested, rename.resolves_the_same.Goals.{then-is_like, else-is_like}}
+use Rattle.nix_rename.proofs.{RenamedLemmas.resolved_tested, renaming.resolves_the_same.Goals.{then-is_like, else-is_like}}
 use Rattle.nix_rename.proofs.renaming.resolves_the_same.Goals as goal
 
 pub returns : goal.returns
