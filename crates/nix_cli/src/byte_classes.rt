@@ -35,12 +35,16 @@ fn named(name: &[u8]) -> Option<&'static [(u8, u8)]> {
     None
 }
 
-// Returns the name of a class that begins at an offset with `[:` and ends with `:]`, and the offset after it. The first `]` ends it.
-fn name_at(text: &[u8], at: usize) -> Option<(&[u8], usize)> {
-    let rest = text.get(at..)?.strip_prefix(b"[:")?;
-    let end = rest.iter().position(|byte| *byte == b']')?;
-    let name = rest.get(..end)?.strip_suffix(b":")?;
-    Some((name, at.checked_add(end)?.checked_add(3)?))
+// Returns the offset of the first `]` from an offset on.
+fn closing_from(text: &[u8], from: usize) -> Option<usize> {
+    let inside = text.get(from..)?.iter().position(|byte| *byte == b']')?;
+    from.checked_add(inside)
+}
+
+// Returns the name of a class that begins at an offset with `[:` and ends with `:` before the next `]`, which has the offset `closing`.
+fn name_at(text: &[u8], at: usize, closing: usize) -> Option<&[u8]> {
+    let inside = text.get(at..closing)?.strip_prefix(b"[:")?;
+    inside.strip_suffix(b":")
 }
 
 // Returns the byte at an offset, and the offset after it. A backslash quotes the byte after it.
@@ -65,14 +69,14 @@ fn range_at(text: &[u8], at: usize) -> Option<((u8, u8), usize)> {
 }
 
 impl ByteClass {
-    // Adds what begins at an offset, and returns the offset after it, or None if the class is broken there.
-    fn add(&mut self, text: &[u8], at: usize) -> Result<Option<usize>, AllocError> {
-        if let Some((name, end)) = name_at(text, at) {
+    // Adds what begins at an offset, and returns the offset after it, or None if the class is broken there. The next `]` has the offset `closing`.
+    fn add(&mut self, text: &[u8], at: usize, closing: usize) -> Result<Option<usize>, AllocError> {
+        if let Some(name) = name_at(text, at, closing) {
             let Some(ranges) = named(name) else {
                 return Ok(None);
             };
             self.ranges.extend_from_slice(ranges)?;
-            return Ok(Some(end));
+            return Ok(closing.checked_add(1));
         }
         let Some((range, end)) = range_at(text, at) else {
             return Ok(None);
@@ -95,11 +99,19 @@ impl ByteClass {
             is_negated,
         };
         let mut end = first;
+        // It is looked for again only when it was passed, so that each byte is looked at once.
+        let mut closing = closing_from(text, first);
         for _range in first..text.len() {
             if end > first && text.get(end) == Some(&b']') {
                 return Ok(Some((class, end.saturating_add(1))));
             }
-            let Some(next) = class.add(text, end)? else {
+            if closing.is_some_and(|at| at < end) {
+                closing = closing_from(text, end);
+            }
+            let Some(at) = closing else {
+                return Ok(None);
+            };
+            let Some(next) = class.add(text, end, at)? else {
                 return Ok(None);
             };
             end = next;
