@@ -10,7 +10,6 @@ PROCESSORS = os.cpu_count() or 1
 # How many texts one process of Nix gets, and for how many seconds.
 BATCH = 100
 SECONDS = 60
-FREE_NAME = "error: undefined variable"
 
 # Shows any value as data that JSON can tell apart: sets as lists of pairs, floats exactly, functions and failed assertions as marks. A function that a
 # text is gets arguments. What is said of each text goes to standard error at once, so that it is there if a later one fails.
@@ -146,7 +145,7 @@ def evaluate(folder, texts):
 
 
 def parse_batch(folder, names):
-    """What Nix says of the syntax of each file: nothing, or a failure. A name that nothing binds is no matter of syntax."""
+    """What Nix says of each file when it parses it and looks up its names: nothing, or a failure."""
     verdicts = {}
     while names:
         done = run(["nix-instantiate", "--parse", *(str(folder / name) for name in names)])
@@ -159,13 +158,13 @@ def parse_batch(folder, names):
             half = len(names) // 2
             return verdicts | parse_batch(folder, names[:half]) | parse_batch(folder, names[half:])
         verdicts |= dict.fromkeys(names[: names.index(name)])
-        verdicts[name] = None if FREE_NAME in said else Failure(first_error(said))
+        verdicts[name] = Failure(first_error(said))
         names = names[names.index(name) + 1 :]
     return verdicts
 
 
 def parse(folder, texts):
-    """What Nix says of the syntax of each text."""
+    """What Nix says of each text when it parses it and looks up its names."""
     names = write_texts(folder, texts)
     verdicts = {}
     for found in side_by_side(lambda part: parse_batch(folder, part), batches(names)):

@@ -1,10 +1,7 @@
 pub mod ListedPieces
-pub mod CountedDiagnostics
+pub mod ReportedLemmas
 pub mod PrintedDiagnostics
 pub mod NotesAsText
 pub mod CheckedFiles
 pub mod PrintedExamples
 pub mod AppendedPieces
-pub mod MergedFindings
-pub mod ReportedFindings
-pub mod LintExamples

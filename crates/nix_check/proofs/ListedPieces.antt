@@ -1,5 +1,5 @@
 -- Pieces of output, one after another.
-use Rattle.std.proofs.Common.{◌≡◌, ℕ, ◌+◌, ◌<◌, ◌≤◌, ◌==◌, ◌&&◌, Bool, true, false, List, [], ◌∷◌, ◌++◌, length, map, take, get_or, append-nil, append_assoc, Option, refl, ap, sym, ◌∙◌, arith, subst, suc}
+use Rattle.std.proofs.Common.{◌≡◌, ℕ, ◌+◌, ◌<◌, ◌==◌, false, List, [], ◌∷◌, ◌++◌, length, map, take, get_or, append-nil, append_assoc, Option, ap, sym, ◌∙◌, arith, subst, suc}
 use Rattle.std.proofs.{KnownBytes.{Appends-nil, Appends-trans}, lemmas.{List.{take_more, map-append, flat_map_more, length-map, length-take-le}, Bool.Decides.nat_tests}}
 use Rattle.std.specs.{List.flat_map, Io.KnownBytes.Appends, Prelude.{◌≢◌, codes}}
 use Rattle.nix_check.specs.Listed.{Prints, AreListed, none_listed, one_listed, comma, comma_joined}

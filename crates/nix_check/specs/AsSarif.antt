@@ -1,28 +1,31 @@
 -- Diagnostics in SARIF 2.1.0. A text is the list of its bytes.
-use Rattle.std.specs.Prelude.{ℕ, ◌+◌, ◌/◌, ◌%◌, ◌==◌, ◌&&◌, ◌||◌, nat_lt, nat_le, Bool, List, [], ◌∷◌, ◌++◌, codes, decimal, map, string_bytes, unwrap_or, if◌then◌else◌}
+use Rattle.std.specs.Prelude.{ℕ, ◌/◌, ◌%◌, ◌==◌, ◌||◌, Bool, List, [], ◌∷◌, ◌++◌, codes, decimal, map, string_bytes, unwrap_or, if◌then◌else◌}
 use Rattle.std.specs.{List.flat_map, Char.is_ascii_alphanumeric}
 use Rattle.rnix_green.specs.declared.range.TextRange.{TextRange}
 use Rattle.nix_cli.specs.{JsonString.json_string, MessageLocations.line_and_column}
-use Rattle.nix_diagnostics.specs.Codes.{code_name, severity_of, severity_name}
+use Rattle.nix_diagnostics.specs.Codes.{all_codes, rule_of, code_name, severity_of, severity_name}
 use Rattle.nix_diagnostics.specs.declared.code.Code.{Code}
 use Rattle.nix_diagnostics.specs.declared.diagnostic.Diagnostic.{Diagnostic}
 use Rattle.nix_diagnostics.specs.declared.notes.Note.{Note}
+use Rattle.nix_lints.specs.Words.{upper_digit}
 use Rattle.nix_check.specs.Listed.{comma_joined}
+
+-- a rule: the name of a code, its title and its severity
+abbrev pub rule_object : Code → List ℕ
+rule_object code =
+    codes "{\"id\":\"" ++ ((rule_of code).name ++ (codes "\",\"shortDescription\":{\"text\":\"" ++ ((rule_of code).title
+    ++ (codes "\"},\"defaultConfiguration\":{\"level\":\"" ++ (severity_name (rule_of code).severity ++ codes "\"}}")))))
 
 -- the rules, one for each code
 abbrev pub sarif_rules : List ℕ
-sarif_rules =
-    codes ",\"rules\":[{\"id\":\"syntax-error\",\"shortDescription\":{\"text\":\"A syntax error\"}},"
-    ++ codes "{\"id\":\"nested-too-deep\",\"shortDescription\":{\"text\":\"Expressions that are nested too deep\"}},"
-    ++ codes "{\"id\":\"repeated-attribute\",\"shortDescription\":{\"text\":\"An attribute that is defined again\"}},"
-    ++ codes "{\"id\":\"foreign-space\",\"shortDescription\":{\"text\":\"White space that Nix does not read\"}}]"
+sarif_rules = codes ",\"rules\":[" ++ comma_joined (map rule_object all_codes)
 
 -- what precedes the first result: the version of the format, and the program with its version and its rules
 abbrev pub sarif_head : List ℕ → List ℕ → List ℕ
 sarif_head program version =
     codes "{\"$schema\":\"https://json.schemastore.org/sarif-2.1.0.json\",\"version\":\"2.1.0\",\"runs\":[{\"tool\":{\"driver\":{\"name\":"
     ++ json_string program ++ codes ",\"version\":" ++ json_string version
-    ++ sarif_rules ++ codes "}},\"columnKind\":\"unicodeCodePoints\",\"results\":["
+    ++ sarif_rules ++ codes "]}},\"columnKind\":\"unicodeCodePoints\",\"results\":["
 
 -- true or false
 abbrev pub bool_text : Bool → List ℕ
@@ -35,10 +38,6 @@ sarif_tail is_complete = codes "\n],\"invocations\":[{\"executionSuccessful\":" 
 -- whether a byte needs no escape in a URI: an ASCII letter, a digit or one of `/.-_~`
 abbrev pub is_unreserved : ℕ → Bool
 is_unreserved b = is_ascii_alphanumeric b || (b == 47 || (b == 46 || (b == 45 || (b == 95 || b == 126))))
-
--- a hexadecimal digit
-abbrev pub upper_digit : ℕ → ℕ
-upper_digit n = if nat_lt n 10 then 48 + n else 55 + n
 
 -- a byte in a URI: the byte itself, or its number after `%`
 abbrev pub uri_byte : ℕ → List ℕ

@@ -1,5 +1,5 @@
 -- A diagnostic as text: its location and its message, an excerpt of the text, and its notes. A text is the list of its bytes.
-use Rattle.std.specs.Prelude.{◌≡◌, ℕ, Bool, List, [], ◌∷◌, ◌++◌, codes, string_bytes, Option, Some, None, if◌then◌else◌}
+use Rattle.std.specs.Prelude.{◌≡◌, ℕ, Bool, List, ◌∷◌, ◌++◌, codes, string_bytes, Option, Some, None, if◌then◌else◌}
 use Rattle.rnix_green.specs.declared.range.TextRange.{TextRange}
 use Rattle.nix_cli.specs.MessageLocations.{location_text}
 use Rattle.nix_diagnostics.specs.Codes.{severity_of}

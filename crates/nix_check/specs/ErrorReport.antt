@@ -1,18 +1,19 @@
 -- The report on some files: the output for each, the counts over all files, and the exit status.
-use Rattle.std.specs.Prelude.{◌≡◌, ◌⊎◌, ℕ, ◌==◌, List, [], ◌++◌, codes, decimal, Option, Some, None, if◌then◌else◌}
+use Rattle.std.specs.Prelude.{◌≡◌, ◌⊎◌, ℕ, ◌==◌, ◌&&◌, List, [], ◌++◌, codes, decimal, Option, Some, None, if◌then◌else◌}
 use Rattle.std.specs.Io.KnownBytes.{Appends, Keeps}
 use Rattle.nix_cli.specs.declared.arguments.TheConstants.{VERSION}
 use Rattle.nix_cli.specs.KnownTexts.{KnownTexts, Agrees}
 use Rattle.nix_cli.specs.MessageLocations.{display_name}
-use Rattle.nix_check.specs.declared.tally.Tally.{Tally}
+use Rattle.nix_check.specs.declared.tally.{Tally.Tally, Counts.Counts}
 use Rattle.nix_check.specs.declared.style.Style.{Style}
 use Rattle.nix_check.specs.declared.style.Format.{Format}
 use Rattle.nix_check.specs.declared.style.Format.TheVariants as form
-use Rattle.nix_check.specs.{Tallies.{with_errors, with_unread, status_of, AreTallied}, PrintedFindings.IsChecked, AsSarif.{sarif_head, sarif_tail}}
+use Rattle.nix_check.specs.{Tallies.{with_counts, with_unread, found_by, status_of, AreTallied}, PrintedFindings.IsChecked, AsSarif.{sarif_head, sarif_tail}}
 
--- a text is checked, and its errors are added to the counts
+-- a text is checked, and its errors and warnings are added to the counts
 abbrev pub IsTextCounted : Style → List ℕ → List ℕ → Tally → Option (List ℕ) → Option (List ℕ) → Tally → Type 0
-IsTextCounted style name text before old new after = (count : ℕ) × IsChecked style name text before.errors old new count × (after ≡ with_errors before count)
+IsTextCounted style name text before old new after =
+    (counts : Counts) × IsChecked style name text (found_by before) old new counts × (after ≡ with_counts before counts)
 
 -- a file has a text, which is counted
 abbrev pub IsFileChecked : Style → KnownTexts → List ℕ → Tally → Option (List ℕ) → Option (List ℕ) → Tally → Type 0
@@ -38,11 +39,22 @@ report_head form.Text = []
 report_head form.Json = []
 report_head form.Sarif = sarif_head (codes "rnix") VERSION.now
 
--- the last line of the text form: the number of errors; there is none if no errors were found and some files could not be read
+-- a number of things, of which one has another word
+abbrev pub counted : ℕ → List ℕ → List ℕ → List ℕ
+counted number one more = if number == 1 then codes "1 " ++ one else decimal number ++ codes " " ++ more
+
+-- the numbers of errors and warnings, of which one is not 0
+abbrev pub numbers_text : ℕ → ℕ → List ℕ
+numbers_text errors warnings =
+    if warnings == 0 then counted errors (codes "error") (codes "errors")
+    else (if errors == 0 then counted warnings (codes "warning") (codes "warnings")
+    else counted errors (codes "error") (codes "errors") ++ codes ", " ++ counted warnings (codes "warning") (codes "warnings"))
+
+-- the last line of the text form: the numbers of errors and warnings; there is none if nothing was found and some files could not be read
 abbrev pub count_line : Tally → List ℕ
 count_line tally =
-    if tally.errors == 0 then (if tally.unread == 0 then codes "no errors\n" else [])
-    else (if tally.errors == 1 then codes "1 error\n" else decimal tally.errors ++ codes " errors\n")
+    if tally.errors == 0 && tally.warnings == 0 then (if tally.unread == 0 then codes "no errors\n" else [])
+    else numbers_text tally.errors tally.warnings ++ codes "\n"
 
 -- the output after the last file
 abbrev pub report_tail : Format → Tally → List ℕ
@@ -58,4 +70,4 @@ pub record IsReport (style : Style) (texts : KnownTexts) (failed : ℕ) (files :
   pub head : Appends old begun (report_head style.format)
   pub checked : AreChecked style texts failed begun files done tally
   pub tail : Appends done new (report_tail style.format tally)
-  pub status_is : status ≡ status_of tally
+  pub status_is : status ≡ status_of style.is_strict tally

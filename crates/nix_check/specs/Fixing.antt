@@ -6,8 +6,8 @@ use Rattle.nix_fixes.specs.AllFixes.{IsFixedUpTo}
 use Rattle.nix_fixes.specs.declared.all_fixes.FixedText.{FixedText}
 use Rattle.nix_check.specs.declared.fixing.TheConstants.{MAX_TRIED}
 use Rattle.nix_check.specs.declared.style.Style.{Style}
-use Rattle.nix_check.specs.declared.tally.Tally.{Tally}
-use Rattle.nix_check.specs.{Tallies.{with_errors, with_unread, status_of, AreTallied}, PrintedFindings.IsChecked}
+use Rattle.nix_check.specs.declared.tally.{Tally.Tally, Counts.Counts}
+use Rattle.nix_check.specs.{Tallies.{with_counts, with_unread, status_of, AreTallied}, PrintedFindings.IsChecked}
 
 -- the line with the number of fixes of a file, if it has some
 abbrev pub fixes_line : List ℕ → ℕ → List ℕ
@@ -19,7 +19,7 @@ abbrev pub IsFixOf : List ℕ → FixedText → Type 0
 IsFixOf text made = IsFixedUpTo MAX_TRIED text made.fixes (string_bytes made.text) made.errors
 
 -- a text is fixed: the number of fixes is written, and the new text is checked
-pub record IsTextFixed (style : Style) (name text : List ℕ) (old new : Option (List ℕ)) (remaining : ℕ) : Type 0 where
+pub record IsTextFixed (style : Style) (name text : List ℕ) (old new : Option (List ℕ)) (remaining : Counts) : Type 0 where
   pub made : List ℕ
   pub fixes : ℕ
   pub errors : ℕ
@@ -36,8 +36,8 @@ pub data IsFileFixed (style : Style) (texts : KnownTexts) (file : List ℕ) (bef
   unwritten : (text made : List ℕ) (fixes errors : ℕ) → Agrees (texts file) (Some text) → IsFixedUpTo MAX_TRIED text fixes made errors →
       ¬ (fixes ≡ 0) → bytes_eq file (codes "-") ≡ false → Keeps old new → after ≡ with_unread before → IsFileFixed style texts file before old new after
   -- its text is fixed
-  fixed : (text : List ℕ) (mid : Option (List ℕ)) (remaining : ℕ) → Agrees (texts file) (Some text) → Keeps old mid →
-      IsTextFixed style (display_name file) text mid new remaining → after ≡ with_errors before remaining →
+  fixed : (text : List ℕ) (mid : Option (List ℕ)) (remaining : Counts) → Agrees (texts file) (Some text) → Keeps old mid →
+      IsTextFixed style (display_name file) text mid new remaining → after ≡ with_counts before remaining →
       IsFileFixed style texts file before old new after
 
 -- the last line: the number of remaining errors; there is none if no errors remain and some files could not be read or written
@@ -52,4 +52,4 @@ pub record AreFixed (style : Style) (texts : KnownTexts) (failed : ℕ) (files :
   pub tally : Tally
   pub fixed : AreTallied (IsFileFixed style texts) failed old files done tally
   pub tail : Appends done new (remaining_line tally)
-  pub status_is : status ≡ status_of tally
+  pub status_is : status ≡ status_of style.is_strict tally

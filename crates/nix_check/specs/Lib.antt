@@ -1,5 +1,4 @@
-pub mod Lints
-pub mod FoundDiagnostics
+pub mod Items
 pub mod Listed
 pub mod AsText
 pub mod AsJson

@@ -1,5 +1,5 @@
 -- Pieces of output for the values of a list, one after another.
-use Rattle.std.specs.Prelude.{◌≡◌, ℕ, ◌+◌, ◌==◌, List, [], ◌∷◌, ◌++◌, length, codes, Option, if◌then◌else◌}
+use Rattle.std.specs.Prelude.{ℕ, ◌+◌, ◌==◌, List, [], ◌∷◌, ◌++◌, length, codes, Option, if◌then◌else◌}
 use Rattle.std.specs.{List.flat_map, Io.KnownBytes.Appends}
 
 -- bytes that satisfy a statement are appended

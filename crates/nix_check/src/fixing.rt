@@ -8,7 +8,7 @@ ghost use Rattle.nix_check.specs.Fixing.{fixes_line, remaining_line, IsFixOf, Is
 use crate::check::check_text;
 use crate::command::COMMAND;
 use crate::style::Style;
-use crate::tally::Tally;
+use crate::tally::{Counts, Tally};
 use nix_cli::{Files, TextReader, display_name, replace_text};
 use nix_fixes::{FixedText, fixed};
 use std::alloc::Global;
@@ -53,11 +53,11 @@ fn write_result<W: Write>(
     alloc: Global,
     name: &str,
     made: &FixedText,
-    style: Style,
+    style: Style<'_>,
     out: &mut W,
-) -> io::Result<usize>
+) -> io::Result<Counts>
     ensures { IfOk result (λ remaining. (text : List ℕ) → IsFixOf text made.now →
-        IsTextFixed style name.now text (W.contents out.old) (W.contents out.new) remaining) }
+        IsTextFixed style.entry name.now text (W.contents out.old) (W.contents out.new) remaining) }
 {
     write_fixes(name, made.fixes, out)?;
     let remaining = check_text(alloc, name, made.text.as_str(), style, 0, out)?;
@@ -71,11 +71,11 @@ fn fix_file<R: TextReader, W: Write>(
     rt: &HostRuntime,
     reader: &R,
     name: &str,
-    style: Style,
+    style: Style<'_>,
     tally: Tally,
     out: &mut W,
 ) -> io::Result<Tally>
-    ensures { IfOk result (IsFileFixed style (R.texts reader.now) name.now tally (W.contents out.old) (W.contents out.new)) }
+    ensures { IfOk result (IsFileFixed style.entry (R.texts reader.now) name.now tally (W.contents out.old) (W.contents out.new)) }
 {
     let Some(text) = reader.read_text(rt, &COMMAND, name, out)? else {
         return Ok(tally.with_unread());
@@ -85,7 +85,7 @@ fn fix_file<R: TextReader, W: Write>(
         return Ok(tally.with_unread());
     }
     let remaining = write_result(rt.alloc(), display_name(name), &made, style, out)?;
-    Ok(tally.with_errors(remaining))
+    Ok(tally.with_counts(remaining))
 }
 
 // Fixes the files in order.
@@ -93,14 +93,15 @@ fn fix_each<R: TextReader, W: Write>(
     rt: &HostRuntime,
     reader: &R,
     files: &Files,
-    style: Style,
+    style: Style<'_>,
     out: &mut W,
 ) -> io::Result<Tally>
-    ensures { IfOk result (AreTallied (IsFileFixed style (R.texts reader.now)) files.now.failed (W.contents out.old)
+    ensures { IfOk result (AreTallied (IsFileFixed style.entry (R.texts reader.now)) files.now.failed (W.contents out.old)
         (map string_bytes files.now.names.items) (W.contents out.new)) }
 {
     let mut tally = Tally {
         errors: 0,
+        warnings: 0,
         unread: files.failed,
     };
     for number in 0..files.names.len() {
@@ -114,7 +115,7 @@ fn fix_each<R: TextReader, W: Write>(
 fn write_remaining<W: Write>(tally: Tally, out: &mut W) -> io::Result<()>
     ensures { OnOk result (Appends (W.contents out.old) (W.contents out.new) (remaining_line tally)) }
 {
-    let Tally { errors, unread } = tally;
+    let Tally { errors, unread, .. } = tally;
     if errors == 0 {
         out.write_all(if unread == 0 {
             b"no errors are left\n"
@@ -133,14 +134,14 @@ pub fn fix_files<R: TextReader, W: Write>(
     rt: &HostRuntime,
     reader: &R,
     files: &Files,
-    style: Style,
+    style: Style<'_>,
     out: &mut W,
 ) -> io::Result<u8>
-    ensures { IfOk result (AreFixed style (R.texts reader.now) files.now.failed (map string_bytes files.now.names.items)
+    ensures { IfOk result (AreFixed style.entry (R.texts reader.now) files.now.failed (map string_bytes files.now.names.items)
         (W.contents out.old) (W.contents out.new)) }
 {
     let tally = fix_each(rt, reader, files, style, out)?;
     write_remaining(tally, out)?;
     out.flush()?;
-    Ok(tally.status())
+    Ok(tally.status(style.is_strict))
 }

@@ -1,13 +1,14 @@
-//! Reports syntax errors of Nix files by rnix's grammar and, in files without any, repeated attributes and white space that Nix refuses:
+//! Reports syntax errors of Nix files by rnix's grammar and, in files without any, what lints find:
 //! `rnix check [OPTION..] [FILE..]`, by default of standard input.
 #![tactic(auto)]
 
 mod check;
 mod command;
+mod disabled;
 mod fixing;
 mod json;
-mod lints;
 mod report;
+mod reported;
 mod sarif;
 mod style;
 mod tally;

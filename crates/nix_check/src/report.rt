@@ -2,7 +2,7 @@
 
 ghost use Rattle.std.specs.Prelude.{◌≡◌, map, string_bytes, IfOk, OnOk};
 ghost use Rattle.std.specs.Io.KnownBytes.{Appends};
-ghost use Rattle.nix_check.specs.ErrorReport.{count_line, report_head, report_tail, IsTextCounted, IsFileCounted, AreChecked, IsReport};
+ghost use Rattle.nix_check.specs.ErrorReport.{counted, numbers_text, count_line, report_head, report_tail, IsTextCounted, IsFileCounted, AreChecked, IsReport};
 
 use crate::check::check_text;
 use crate::command::COMMAND;
@@ -13,19 +13,19 @@ use nix_cli::{Files, Progress, TextReader, display_name};
 use std::alloc::Global;
 use std::io::{self, Write};
 
-// Checks a text, and returns the counts with its errors.
+// Checks a text, and returns the counts with its errors and warnings.
 fn count_text<W: Write>(
     alloc: Global,
     name: &str,
     text: &str,
-    style: Style,
+    style: Style<'_>,
     tally: Tally,
     out: &mut W,
 ) -> io::Result<Tally>
-    ensures { IfOk result (IsTextCounted style name.now text.now tally (W.contents out.old) (W.contents out.new)) }
+    ensures { IfOk result (IsTextCounted style.entry name.now text.now tally (W.contents out.old) (W.contents out.new)) }
 {
-    let found = check_text(alloc, name, text, style, tally.errors, out)?;
-    Ok(tally.with_errors(found))
+    let counts = check_text(alloc, name, text, style, tally.found(), out)?;
+    Ok(tally.with_counts(counts))
 }
 
 // Checks a file, and returns the counts with its errors, or with the file if it cannot be read.
@@ -33,11 +33,11 @@ fn check_file<R: TextReader, W: Write>(
     rt: &HostRuntime,
     reader: &R,
     name: &str,
-    style: Style,
+    style: Style<'_>,
     tally: Tally,
     out: &mut W,
 ) -> io::Result<Tally>
-    ensures { IfOk result (IsFileCounted style (R.texts reader.now) name.now tally (W.contents out.old) (W.contents out.new)) }
+    ensures { IfOk result (IsFileCounted style.entry (R.texts reader.now) name.now tally (W.contents out.old) (W.contents out.new)) }
 {
     match reader.read_text(rt, &COMMAND, name, out)? {
         Some(text) => count_text(
@@ -58,14 +58,14 @@ fn check_next<R: TextReader, W: Write>(
     reader: &R,
     progress: Progress,
     name: &str,
-    style: Style,
+    style: Style<'_>,
     tally: Tally,
     out: &mut W,
 ) -> io::Result<Tally>
-    ensures { IfOk result (IsFileCounted style (R.texts reader.now) name.now tally (W.contents out.old) (W.contents out.new)) }
+    ensures { IfOk result (IsFileCounted style.entry (R.texts reader.now) name.now tally (W.contents out.old) (W.contents out.new)) }
 {
     let next = check_file(rt, reader, name, style, tally, out)?;
-    if next.errors == tally.errors {
+    if next.found() == tally.found() {
         return Ok(next);
     }
     progress.clear(rt)?;
@@ -78,15 +78,16 @@ fn check_files<R: TextReader, W: Write>(
     rt: &HostRuntime,
     reader: &R,
     files: &Files,
-    style: Style,
+    style: Style<'_>,
     out: &mut W,
 ) -> io::Result<Tally>
-    ensures { IfOk result (AreChecked style (R.texts reader.now) files.now.failed (W.contents out.old)
+    ensures { IfOk result (AreChecked style.entry (R.texts reader.now) files.now.failed (W.contents out.old)
         (map string_bytes files.now.names.items) (W.contents out.new)) }
 {
     let progress = Progress::of(rt, files.names.len());
     let mut tally = Tally {
         errors: 0,
+        warnings: 0,
         unread: files.failed,
     };
     for number in 0..files.names.len() {
@@ -108,18 +109,45 @@ fn write_start<W: Write>(format: Format, out: &mut W) -> io::Result<()>
     }
 }
 
-// Writes the last line, the number of errors. There is no such line if there are no errors but some files could not be read.
+// Writes a number of things, of which one has another word.
+fn write_number<W: Write>(number: usize, one: &str, more: &str, out: &mut W) -> io::Result<()>
+    ensures { OnOk result (Appends (W.contents out.old) (W.contents out.new) (counted number one.now more.now)) }
+{
+    if number == 1 {
+        write!(out, "1 {one}")
+    } else {
+        write!(out, "{number} {more}")
+    }
+}
+
+// Writes the numbers of errors and warnings, of which one is not 0.
+fn write_numbers<W: Write>(errors: usize, warnings: usize, out: &mut W) -> io::Result<()>
+    ensures { OnOk result (Appends (W.contents out.old) (W.contents out.new) (numbers_text errors warnings)) }
+{
+    if warnings == 0 {
+        return write_number(errors, "error", "errors", out);
+    }
+    if errors == 0 {
+        return write_number(warnings, "warning", "warnings", out);
+    }
+    write_number(errors, "error", "errors", out)?;
+    out.write_all(b", ")?;
+    write_number(warnings, "warning", "warnings", out)
+}
+
+// Writes the last line, the numbers of errors and warnings. There is no such line if nothing was found but some files could not be read.
 fn write_count<W: Write>(tally: Tally, out: &mut W) -> io::Result<()>
     ensures { OnOk result (Appends (W.contents out.old) (W.contents out.new) (count_line tally)) }
 {
-    let Tally { errors, unread } = tally;
-    if errors == 0 {
-        out.write_all(if unread == 0 { b"no errors\n" } else { b"" })
-    } else if errors == 1 {
-        out.write_all(b"1 error\n")
-    } else {
-        writeln!(out, "{errors} errors")
+    if tally.errors == 0 && tally.warnings == 0 {
+        return out.write_all(if tally.unread == 0 {
+            b"no errors\n"
+        } else {
+            b""
+        });
     }
+    write_numbers(tally.errors, tally.warnings, out)?;
+    out.write_all(b"\n")
 }
 
 // Writes what follows the errors of the last file.
@@ -138,14 +166,14 @@ pub fn report_files<R: TextReader, W: Write>(
     rt: &HostRuntime,
     reader: &R,
     files: &Files,
-    style: Style,
+    style: Style<'_>,
     out: &mut W,
 ) -> io::Result<u8>
-    ensures { IfOk result (IsReport style (R.texts reader.now) files.now.failed (map string_bytes files.now.names.items)
+    ensures { IfOk result (IsReport style.entry (R.texts reader.now) files.now.failed (map string_bytes files.now.names.items)
         (W.contents out.old) (W.contents out.new)) }
 {
     write_start(style.format, out)?;
     let tally = check_files(rt, reader, files, style, out)?;
     write_end(style.format, tally, out)?;
-    Ok(tally.status())
+    Ok(tally.status(style.is_strict))
 }

@@ -5,40 +5,44 @@ ghost use Rattle.std.specs.List.{flat_map};
 ghost use Rattle.std.specs.Io.KnownBytes.{Appends};
 ghost use Rattle.nix_cli.specs.MessageLocations.{IsIndexed};
 ghost use Rattle.nix_check.specs.Listed.{comma_joined};
-ghost use Rattle.nix_check.specs.AsSarif.{sarif_rules, sarif_head, bool_text, sarif_tail, is_unreserved, upper_digit, uri_byte, uri, region, location, message_object, related_location, rule_members, sarif_result, separator};
+ghost use Rattle.nix_check.specs.AsSarif.{rule_object, sarif_head, bool_text, sarif_tail, is_unreserved, uri_byte, uri, region, location, message_object, related_location, rule_members, sarif_result, separator};
 
 use crate::json::write_comma;
 use nix_cli::{Source, VERSION, write_json_string};
-use nix_diagnostics::{Code, Diagnostic, Note};
+use nix_diagnostics::{CODES, Code, Diagnostic, Note};
+use nix_lints::upper_digit;
 use rnix::TextRange;
 use std::io::{self, Write};
 
 // The beginning of the file, up to the program's name.
 const HEAD: &[u8] =
     b"{\"$schema\":\"https://json.schemastore.org/sarif-2.1.0.json\",\"version\":\"2.1.0\",\"runs\":[{\"tool\":{\"driver\":{\"name\":";
-// The rules, one for each code.
-const SYNTAX_RULE: &[u8] =
-    b",\"rules\":[{\"id\":\"syntax-error\",\"shortDescription\":{\"text\":\"A syntax error\"}},";
-
-const DEPTH_RULE: &[u8] =
-    b"{\"id\":\"nested-too-deep\",\"shortDescription\":{\"text\":\"Expressions that are nested too deep\"}},";
-
-const REPETITION_RULE: &[u8] =
-    b"{\"id\":\"repeated-attribute\",\"shortDescription\":{\"text\":\"An attribute that is defined again\"}},";
-
-const SPACE_RULE: &[u8] =
-    b"{\"id\":\"foreign-space\",\"shortDescription\":{\"text\":\"White space that Nix does not read\"}}]";
 // The part after the rules, up to the first result.
-const RESULTS: &[u8] = b"}},\"columnKind\":\"unicodeCodePoints\",\"results\":[";
+const RESULTS: &[u8] = b"]}},\"columnKind\":\"unicodeCodePoints\",\"results\":[";
 
-// Writes the rules.
-fn write_rules<W: Write>(out: &mut W) -> io::Result<()>
-    ensures { OnOk result (Appends (W.contents out.old) (W.contents out.new) sarif_rules) }
+// Writes a rule: the name of a code, its severity and its title.
+fn write_rule_of<W: Write>(code: Code, out: &mut W) -> io::Result<()>
+    ensures { OnOk result (Appends (W.contents out.old) (W.contents out.new) (rule_object code)) }
 {
-    out.write_all(SYNTAX_RULE)?;
-    out.write_all(DEPTH_RULE)?;
-    out.write_all(REPETITION_RULE)?;
-    out.write_all(SPACE_RULE)
+    let rule = code.rule();
+    let severity = code.severity();
+    let level = severity.name();
+    let (name, title) = (rule.name, rule.title);
+    write!(
+        out,
+        "{{\"id\":\"{name}\",\"shortDescription\":{{\"text\":\"{title}\"}},\"defaultConfiguration\":{{\"level\":\"{level}\"}}}}"
+    )
+}
+
+// Writes the rules, one for each code.
+fn write_rules<W: Write>(all: &[Code], out: &mut W) -> io::Result<()>
+    ensures { OnOk result (Appends (W.contents out.old) (W.contents out.new) (comma_joined (map rule_object all.now))) }
+{
+    for number in 0..all.len() {
+        write_comma(number, out)?;
+        write_rule_of(all[number], out)?;
+    }
+    Ok(())
 }
 
 /// Writes what precedes the first result.
@@ -49,7 +53,8 @@ pub fn write_head<W: Write>(program: &str, out: &mut W) -> io::Result<()>
     write_json_string(program, out)?;
     out.write_all(b",\"version\":")?;
     write_json_string(VERSION, out)?;
-    write_rules(out)?;
+    out.write_all(b",\"rules\":[")?;
+    write_rules(&CODES, out)?;
     out.write_all(RESULTS)
 }
 
@@ -74,17 +79,6 @@ fn is_unreserved(byte: u8) -> bool
     ensures { result ≡ is_unreserved byte }
 {
     byte.is_ascii_alphanumeric() || matches!(byte, b'/' | b'.' | b'-' | b'_' | b'~')
-}
-
-/// Returns the hexadecimal digit of a number below 16.
-pub fn upper_digit(number: u8) -> u8
-    ensures { number < 16 → result ≡ upper_digit number }
-{
-    if number < 10 {
-        b'0' + number
-    } else {
-        b'7'.wrapping_add(number)
-    }
 }
 
 // Writes a byte of a URI, percent-encoded if necessary.

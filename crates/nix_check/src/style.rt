@@ -1,4 +1,4 @@
-//! Options for printing diagnostics.
+//! Options for finding and printing diagnostics.
 
 /// The form in which a diagnostic is printed.
 #[derive(Clone, Copy, PartialEq, Eq)]
@@ -11,15 +11,19 @@ pub enum Format {
     Sarif,
 }
 
-/// Options for printing diagnostics.
+/// Options for finding and printing diagnostics.
 #[derive(Clone, Copy)]
-pub struct Style {
+pub struct Style<'a> {
     /// The greatest number of diagnostics of a file that are printed.
     pub limit: usize,
     /// Whether each error has its own diagnostic. Otherwise errors that follow from the same mistake share one.
     pub is_each: bool,
+    /// Whether warnings count for the exit status as errors do.
+    pub is_strict: bool,
     /// Their form.
     pub format: Format,
     /// Whether the text is colored.
     pub is_colored: bool,
+    /// The names of the lints that are left out.
+    pub disabled: &'a [String],
 }

@@ -1,26 +1,38 @@
 //! The counts over all files, and the exit status.
 
 ghost use Rattle.std.specs.Prelude.{◌≡◌};
-ghost use Rattle.nix_check.specs.Tallies.{with_errors, with_unread, status_of};
+ghost use Rattle.nix_check.specs.Tallies.{with_counts, with_unread, found_by, status_of};
 
 use nix_cli::{FAILED, FOUND};
+
+/// The counts of a text.
+#[derive(Clone, Copy)]
+pub struct Counts {
+    /// Errors.
+    pub errors: usize,
+    /// Warnings.
+    pub warnings: usize,
+}
 
 /// The counts over all files.
 #[derive(Clone, Copy)]
 pub struct Tally {
     /// Errors that were found.
     pub errors: usize,
+    /// Warnings that were found.
+    pub warnings: usize,
     /// Files and folders that could not be read or written.
     pub unread: usize,
 }
 
 impl Tally {
-    /// Returns the counts with more errors.
-    pub fn with_errors(self, count: usize) -> Tally
-        ensures { result ≡ with_errors self count }
+    /// Returns the counts with those of a text.
+    pub fn with_counts(self, counts: Counts) -> Tally
+        ensures { result ≡ with_counts self counts }
     {
         Tally {
-            errors: self.errors.saturating_add(count),
+            errors: self.errors.saturating_add(counts.errors),
+            warnings: self.warnings.saturating_add(counts.warnings),
             unread: self.unread,
         }
     }
@@ -31,18 +43,28 @@ impl Tally {
     {
         Tally {
             errors: self.errors,
+            warnings: self.warnings,
             unread: self.unread.saturating_add(1),
         }
     }
 
-    /// Returns the exit status.
-    pub fn status(self) -> u8
-        ensures { result ≡ status_of self }
+    /// Returns the number of diagnostics that were found.
+    pub fn found(self) -> usize
+        ensures { result ≡ found_by self }
     {
-        if self.unread == 0 {
-            if self.errors == 0 { 0 } else { FOUND }
-        } else {
+        self.errors.saturating_add(self.warnings)
+    }
+
+    /// Returns the exit status. If `is_strict`, warnings count as errors do.
+    pub fn status(self, is_strict: bool) -> u8
+        ensures { result ≡ status_of is_strict self }
+    {
+        if self.unread > 0 {
             FAILED
+        } else if self.errors == 0 && (!is_strict || self.warnings == 0) {
+            0
+        } else {
+            FOUND
         }
     }
 }

@@ -1,10 +1,10 @@
 -- Facts about the tokens with which errors start.
-use Rattle.std.proofs.Common.{◌≡◌, ◌∙◌, ℕ, zero, suc, ◌+◌, ◌<◌, ◌≤◌, ◌⊎◌, Bool, true, false, cond, List, [], ◌∷◌, map, length, Option, Some, None, ap, sym, subst, refl, arith, inl, inr}
+use Rattle.std.proofs.Common.{◌≡◌, ◌∙◌, ℕ, zero, suc, ◌+◌, ◌<◌, ◌≤◌, Bool, true, false, cond, map, length, Option, Some, None, ap, sym, subst, refl, arith, inl, inr}
 use Rattle.std.specs.Prelude.{find, unwrap_or, IfSome, option_map, not, nat_lt, ◌==◌, ◌&&◌, if◌then◌else◌}
 use Rattle.std.proofs.lemmas.Bool.{cases_lt, eqb-true, ltb-true, lt-ltb}
 use Rattle.rnix_green.specs.Tree.{Tree, Located, item, item_of, extent_of, items_of, forest_of, IsTokenAt}
-use Rattle.rnix_green.specs.Walk.{Spot, spot_at, counted, elements_of}
-use Rattle.rnix_green.specs.Relatives.{IsTokenIn, IsFirstToken, IsNextToken, located, parent_of}
+use Rattle.rnix_green.specs.Walk.{Spot, spot_at, counted}
+use Rattle.rnix_green.specs.Relatives.{IsFirstToken, IsNextToken, located, parent_of}
 use Rattle.rnix_green.specs.Range.{Extent}
 use Rattle.rnix_grammar.specs.Fault.{same_extent}
 use Rattle.rnix_grammar.specs.Ranges.{is_error_node}

@@ -1,5 +1,5 @@
 -- Entries that end between errors, on worked examples.
-use Rattle.std.proofs.Common.{◌≡◌, ℕ, List, [], ◌∷◌, true, false, refl}
+use Rattle.std.proofs.Common.{◌≡◌, List, [], ◌∷◌, true, false, refl}
 use Rattle.nix_diagnostics.specs.declared.semicolons.Semicolon.{Semicolon}
 use Rattle.nix_diagnostics.specs.Independence.{since, ends_between}
 

@@ -6,6 +6,6 @@ pub mod UnmatchedLemmas
 pub mod LostLemmas
 pub mod FollowingLemmas
 pub mod FollowingExamples
-pub mod ShownLemmas
-pub mod FirstShownLemmas
-pub mod RepeatedArgumentLemmas
+pub mod MistakeLemmas
+pub mod DescribedLemmas
+pub mod RepeatedNameLemmas

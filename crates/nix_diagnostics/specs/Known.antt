@@ -1,7 +1,7 @@
 -- What the state of a `Folding` says about the errors so far. A token error is one of those in `TokenErrors`.
-use Rattle.std.specs.Prelude.{◌≡◌, ℕ, drop, if◌then◌else◌, nat_le, ◌&&◌, ◌||◌, Bool, true, false, List, [], ◌∷◌, ◌++◌, Option, Some, None, option_map, is_some, is_none}
+use Rattle.std.specs.Prelude.{◌≡◌, ℕ, drop, if◌then◌else◌, nat_le, ◌&&◌, ◌||◌, Bool, false, List, [], ◌∷◌, ◌++◌, Option, Some, None, option_map, is_some, is_none}
 use Rattle.rnix_green.specs.declared.range.TextRange.{TextRange}
-use Rattle.rnix_green.specs.Range.{Extent, bounds_of}
+use Rattle.rnix_green.specs.Range.{bounds_of}
 use Rattle.rnix_green.specs.Tree.{Located, text_at}
 use Rattle.rnix_grammar.specs.Fault.{Fault}
 use Rattle.rnix_grammar.specs.Ranges.{range_in}

@@ -8,5 +8,5 @@ pub mod Independence
 pub mod Following
 pub mod Known
 pub mod Codes
-pub mod Shown
-pub mod FirstShown
+pub mod Mistakes
+pub mod Described

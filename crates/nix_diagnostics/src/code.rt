@@ -2,8 +2,9 @@
 
 ghost use Rattle.std.specs.Prelude.{◌≡◌};
 ghost use Rattle.rnix_grammar.specs.Fault.{fault_of};
-ghost use Rattle.nix_diagnostics.specs.Codes.{code_of, code_name, severity_of, severity_name};
+ghost use Rattle.nix_diagnostics.specs.Codes.{code_of, severity_name, row_of, rule_of};
 
+use crate::rules::*;
 use rnix::ParseError;
 
 /// The severity of what a diagnostic reports.
@@ -11,7 +12,7 @@ use rnix::ParseError;
 pub enum Severity {
     /// Nix refuses the text, or this library does not parse all of it.
     Error,
-    /// Nix accepts the text, but it is probably a mistake. No code has this severity so far.
+    /// Nix accepts the text, but it is probably a mistake, or says in more words what fewer say.
     Warning,
 }
 
@@ -27,17 +28,31 @@ impl Severity {
     }
 }
 
-/// What a diagnostic reports.
+/// What a diagnostic reports. The calls of this crate return the first two; `nix_lints` finds the others.
 #[derive(Clone, Copy, Debug, PartialEq, Eq)]
 pub enum Code {
     /// A syntax error.
     SyntaxError,
     /// Expressions that are nested deeper than the parser allows.
     NestedTooDeep,
-    /// An attribute that is defined again, which Nix refuses. This is not a syntax error, so no call of this crate returns it.
+    /// An attribute that is defined again.
     RepeatedAttribute,
-    /// White space that Nix does not read, such as a no-break space. No call of this crate returns it either.
+    /// White space that Nix does not read, such as a no-break space.
     ForeignSpace,
+    /// A name that nothing binds.
+    UnboundName,
+    /// A name in `${ }` where Nix allows none: in a `let` or an `inherit`.
+    DynamicName,
+    /// An integer that is too large for Nix.
+    LargeInteger,
+    /// A number, a string, a path or a list that is called like a function.
+    CalledData,
+    /// A path that begins with a name, which may be meant as a string.
+    BarePath,
+    /// Parentheses that change nothing.
+    NeedlessParentheses,
+    /// An entry that an `inherit` says in fewer words.
+    ManualInherit,
 }
 
 impl Code {
@@ -51,25 +66,36 @@ impl Code {
         }
     }
 
-    /// Returns the code's name, such as `syntax-error`. It does not change from version to version.
-    pub fn name(self) -> &'static str
-        ensures { result.now ≡ code_name self }
+    /// Returns what is the same for all diagnostics with the code.
+    pub fn rule(self) -> Rule
+        ensures { row_of result ≡ rule_of self }
     {
         match self {
-            Code::SyntaxError => "syntax-error",
-            Code::NestedTooDeep => "nested-too-deep",
-            Code::RepeatedAttribute => "repeated-attribute",
-            Code::ForeignSpace => "foreign-space",
+            Code::SyntaxError => SYNTAX_ERROR,
+            Code::NestedTooDeep => NESTED_TOO_DEEP,
+            Code::RepeatedAttribute => REPEATED_ATTRIBUTE,
+            Code::ForeignSpace => FOREIGN_SPACE,
+            Code::UnboundName => UNBOUND_NAME,
+            Code::DynamicName => DYNAMIC_NAME,
+            Code::LargeInteger => LARGE_INTEGER,
+            Code::CalledData => CALLED_DATA,
+            Code::BarePath => BARE_PATH,
+            Code::NeedlessParentheses => NEEDLESS_PARENTHESES,
+            Code::ManualInherit => MANUAL_INHERIT,
         }
+    }
+
+    /// Returns the code's name, such as `syntax-error`. It does not change from version to version.
+    pub fn name(self) -> &'static str
+        ensures { result.now ≡ (rule_of self).name }
+    {
+        self.rule().name
     }
 
     /// Returns how serious it is.
     pub fn severity(self) -> Severity
-        ensures { result ≡ severity_of self }
+        ensures { result ≡ (rule_of self).severity }
     {
-        match self {
-            Code::SyntaxError | Code::NestedTooDeep => Severity::Error,
-            Code::RepeatedAttribute | Code::ForeignSpace => Severity::Error,
-        }
+        self.rule().severity
     }
 }

@@ -4,25 +4,28 @@
 mod brackets;
 mod closings;
 mod code;
+mod diagnosis;
 mod diagnostic;
 mod ends;
 mod error_nodes;
 mod folding;
 mod hints;
+mod locations;
 mod message;
 mod near;
 mod notes;
 mod openings;
 mod proposals;
 mod replacement;
+mod rules;
 mod semicolons;
 mod token_errors;
 mod unexpected;
 mod words;
 
 pub use code::{Code, Severity};
-pub use diagnostic::{
-    Diagnostic, FirstDiagnostics, all_diagnostics, diagnostics, first_diagnostics,
-};
+pub use diagnosis::Diagnosis;
+pub use diagnostic::{Diagnostic, all_diagnostics, diagnostics, first_diagnostics};
 pub use notes::Note;
 pub use replacement::Replacement;
+pub use rules::{CODES, Rule};

@@ -1,5 +1,5 @@
 -- What follows from a fix that was tried.
-use Rattle.std.proofs.Common.{◌≡◌, ◌∙◌, ℕ, ◌+◌, ◌<◌, ◌≤◌, List, length, take, subst, sym, ap, refl, arith, inl, inr, Option, Some, None, IfSome, IfNone, string_bytes}
+use Rattle.std.proofs.Common.{◌≡◌, ◌∙◌, ℕ, ◌+◌, ◌<◌, ◌≤◌, false, List, length, map, take, subst, sym, ap, refl, arith, inl, inr, Option, Some, None, IfSome, IfNone, string_bytes}
 use Rattle.std.specs.{List.All, Str.IsUtf8}
 use Rattle.std.proofs.lemmas.{Bool.cases_lt, List.take_all}
 use Rattle.std.proofs.lemmas.Str.{IsUtf8-string_bytes}
@@ -7,7 +7,7 @@ use Rattle.rnix_kinds.specs.Lexical.Tokens.{tokens_of}
 use Rattle.rnix_grammar.specs.Parsed.{IsParsed}
 use Rattle.rnix.specs.ParseResult.{Reading, root_of}
 use Rattle.nix_fixes.specs.declared.tried.Tried.{Tried}
-use Rattle.nix_diagnostics.specs.Shown.{AreShown}
+use Rattle.nix_diagnostics.specs.Mistakes.{mistake_of, mistakes}
 use Rattle.nix_diagnostics.specs.declared.diagnostic.Diagnostic.{Diagnostic}
 use Rattle.nix_fixes.specs.declared.all_fixes.Progress.{Progress}
 use Rattle.nix_fixes.specs.declared.all_fixes.Found.{Found}
@@ -44,12 +44,12 @@ begun text p made is_read no_fixes none_tried = record {
 
 -- a text becomes another one by a fix of one of its diagnostics that was tried
 pub fixed_once : (text : List ℕ) (read : Reading) (found : List Diagnostic) (number : ℕ) (tried : Tried) → IsParsed (tokens_of text) read.tree read.faults →
-    AreShown (root_of read) read.faults found → IsTried text (length read.faults) tried → IsFixAt text (length read.faults) found number tried.fix →
+    map mistake_of found ≡ mistakes false (root_of read) read.faults → IsTried text (length read.faults) tried → IsFixAt text (length read.faults) found number tried.fix →
     IsFixedOnce text (string_bytes tried.made) number
 fixed_once text read found number tried is_read are_shown h first = record {
   errors = length read.faults;
   found = found;
-  are = record { read = read; is_read = is_read; count = refl; shown = are_shown };
+  are = record { read = read; is_read = is_read; count = refl; mistakes_are = are_shown };
   fix = tried.fix;
   first = first;
   fixes = tried_fix text (length read.faults) tried h;
@@ -85,7 +85,7 @@ all_up_to P xs n most inside within whole all = elim (cases_lt n most) [
 -- what was found among the diagnostics of a text so far is its next fix
 pub next_found : (p : Progress) (most errors : ℕ) (text : List ℕ) (found all : List Diagnostic) (next : Option Found) → text ≡ string_bytes p.made →
     errors ≡ length p.read.faults → found ≡ all → IsParsed (tokens_of (string_bytes p.made)) p.read.tree p.read.faults →
-    AreShown (root_of p.read) p.read.faults all → IfSome next (λ f. f.number < most) → IfSome next (λ f. IsTried text errors f.tried) →
+    map mistake_of all ≡ mistakes false (root_of p.read) p.read.faults → IfSome next (λ f. f.number < most) → IfSome next (λ f. IsTried text errors f.tried) →
     IfSome next (λ f. IsFixAt text errors found f.number f.tried.fix) → IfSome next (IsNextFix p most)
 next_found p most errors text found all None text_is errors_are same is_read are_shown within tried first = tt
 next_found p most errors text found all (Some next) text_is errors_are same is_read are_shown within tried first =
@@ -100,12 +100,12 @@ next_found p most errors text found all (Some next) text_is errors_are same is_r
 -- if nothing was found, the text has no more fixes
 pub none_found : (p : Progress) (most errors : ℕ) (text : List ℕ) (found all : List Diagnostic) (next : Option Found) → text ≡ string_bytes p.made →
     errors ≡ length p.read.faults → found ≡ all → IsParsed (tokens_of (string_bytes p.made)) p.read.tree p.read.faults →
-    AreShown (root_of p.read) p.read.faults all → IfNone next (HaveNoFixes text errors (take most found)) →
+    map mistake_of all ≡ mistakes false (root_of p.read) p.read.faults → IfNone next (HaveNoFixes text errors (take most found)) →
     IfNone next (HasNoMore (string_bytes p.made) (length p.read.faults) most)
 none_found p most errors text found all (Some next) text_is errors_are same is_read are_shown none = tt
 none_found p most errors text found all None text_is errors_are same is_read are_shown none = record {
   found = all;
-  are = record { read = p.read; is_read = is_read; count = refl; shown = are_shown };
+  are = record { read = p.read; is_read = is_read; count = refl; mistakes_are = are_shown };
   none = subst (λ ds. HaveNoFixes (string_bytes p.made) (length p.read.faults) (take most ds)) same
       (subst (λ n. HaveNoFixes (string_bytes p.made) n (take most found)) errors_are (subst (λ t. HaveNoFixes t errors (take most found)) text_is none));
 }

@@ -1,20 +1,20 @@
 -- All fixes of a text, one after another.
-use Rattle.std.specs.Prelude.{◌≡◌, ℕ, ◌+◌, ◌-◌, ◌≤◌, List, length, take, slice_get, Some}
+use Rattle.std.specs.Prelude.{◌≡◌, ℕ, ◌+◌, ◌-◌, ◌≤◌, false, List, length, map, take, slice_get, Some}
 use Rattle.std.specs.List.{All}
 use Rattle.rnix_kinds.specs.Lexical.Tokens.{tokens_of}
 use Rattle.rnix_grammar.specs.Parsed.{IsParsed}
 use Rattle.rnix.specs.ParseResult.{Reading, root_of}
-use Rattle.nix_diagnostics.specs.Shown.{AreShown}
+use Rattle.nix_diagnostics.specs.Mistakes.{mistake_of, mistakes}
 use Rattle.nix_diagnostics.specs.declared.diagnostic.Diagnostic.{Diagnostic}
 use Rattle.nix_fixes.specs.declared.fix.Fix.{Fix}
 use Rattle.nix_fixes.specs.Fixes.{text_with, HaveNoFix, IsFix, IsFirstFix}
 
--- a text has this number of errors, and these diagnostics show them
+-- a text has this number of errors, and these are the diagnostics of its mistakes
 pub record AreOfText (text : List ℕ) (errors : ℕ) (found : List Diagnostic) : Type 0 where
   pub read : Reading
   pub is_read : IsParsed (tokens_of text) read.tree read.faults
   pub count : length read.faults ≡ errors
-  pub shown : AreShown (root_of read) read.faults found
+  pub mistakes_are : map mistake_of found ≡ mistakes false (root_of read) read.faults
 
 -- no note of these diagnostics has a replacement that helps
 abbrev pub HaveNoFixes : List ℕ → ℕ → List Diagnostic → Type 0

@@ -1,5 +1,5 @@
 -- Replacements of bytes in a text, and fixes: those after which the text has fewer errors.
-use Rattle.std.specs.Prelude.{◌≡◌, ℕ, ◌+◌, ◌-◌, ◌<◌, ◌≤◌, List, ◌∷◌, ◌++◌, length, take, drop, Option, Some, string_bytes}
+use Rattle.std.specs.Prelude.{◌≡◌, ℕ, ◌+◌, ◌-◌, ◌<◌, ◌≤◌, nat_le, ◌&&◌, Bool, true, if◌then◌else◌, List, ◌∷◌, ◌++◌, length, take, drop, Option, Some, string_bytes}
 use Rattle.std.specs.{List.All, Str.{IsCharBoundary, IsUtf8}}
 use Rattle.rnix_kinds.specs.Lexical.Tokens.{tokens_of}
 use Rattle.rnix_green.specs.declared.range.TextRange.{TextRange}
@@ -7,6 +7,7 @@ use Rattle.rnix_grammar.specs.Parsed.{IsParsed}
 use Rattle.rnix.specs.ParseResult.{Reading}
 use Rattle.nix_diagnostics.specs.declared.{notes.Note.{Note}, replacement.Replacement.{Replacement}}
 use Rattle.nix_fixes.specs.declared.fix.Fix.{Fix}
+use Rattle.nix_fixes.specs.declared.tried.TheConstants.{MOST_REMOVED, MOST_ADDED}
 
 -- the bytes of a text from start up to end
 abbrev pub bytes_between : ℕ → ℕ → List ℕ → List ℕ
@@ -52,15 +53,29 @@ pub record IsFix (text : List ℕ) (errors : ℕ) (fix : Fix) : Type 0 where
   pub utf8 : IsUtf8 (text_with text fix)
   pub fewer : HasFewer (text_with text fix) errors
 
--- a fix is what a replacement proposes
+-- the bytes that a replacement keeps are among those that it replaces
+abbrev pub keeps_inside : Replacement → Bool
+keeps_inside r = nat_le r.range.start r.kept.start && nat_le r.kept.end r.range.end
+
+-- how many bytes a replacement removes: all that it replaces, but for those that it keeps
+abbrev pub removed : Replacement → ℕ
+removed r = (r.range.end - r.range.start) - (if keeps_inside r then r.kept.end - r.kept.start else 0)
+
+-- a replacement removes and adds few bytes
+abbrev pub is_small : Replacement → Bool
+is_small r = nat_le (removed r) MOST_REMOVED && nat_le (length r.before.now + length r.after.now) MOST_ADDED
+
+-- a fix is what a replacement proposes that removes and adds few bytes
 pub record IsProposed (text : List ℕ) (r : Replacement) (fix : Fix) : Type 0 where
+  pub small : is_small r ≡ true
   pub range : fix.range ≡ r.range
   pub new : string_bytes fix.text ≡ new_text text r
 
--- a replacement does not help: if its range and the bytes that it keeps begin and end between characters, the text with it has no fewer errors than a number
+-- a replacement does not help: if it is small, and its range and the bytes that it keeps begin and end between characters, the text with it has no fewer
+-- errors than a number
 abbrev pub DoesNotHelp : List ℕ → ℕ → Replacement → Type 0
 DoesNotHelp text errors r =
-    IsOfCharacters text r.kept → IsOfCharacters text r.range → HasNoFewer (spliced text r.range.start r.range.end (new_text text r)) errors
+    is_small r ≡ true → IsOfCharacters text r.kept → IsOfCharacters text r.range → HasNoFewer (spliced text r.range.start r.range.end (new_text text r)) errors
 
 -- no replacement of a note helps
 abbrev pub HasNoFix : List ℕ → ℕ → Note → Type 0

@@ -1,7 +1,7 @@
 //! Trying replacements.
 
 ghost use Rattle.std.specs.Prelude.{◌≡◌, length, string_bytes, IfOk, IfSome, IfNone};
-ghost use Rattle.nix_fixes.specs.Fixes.{spliced, IsOfCharacters, HasNoFewer, IsProposed, DoesNotHelp, HasNoFix, HaveNoFix, IsOfNote, IsFirstFix};
+ghost use Rattle.nix_fixes.specs.Fixes.{spliced, keeps_inside, removed, is_small, IsOfCharacters, HasNoFewer, IsProposed, DoesNotHelp, HasNoFix, HaveNoFix, IsOfNote, IsFirstFix};
 ghost use Rattle.nix_fixes.specs.Tries.{IsTried};
 
 use crate::changed_text::{new_text, spliced};
@@ -9,6 +9,11 @@ use crate::fix::Fix;
 use nix_diagnostics::{Note, Replacement};
 use rnix::{Parse, Root, TextRange};
 use std::alloc::{AllocError, Global};
+
+// The greatest number of bytes that a fix removes, and of bytes that it adds: a few characters and a keyword.
+const MOST_REMOVED: usize = 8;
+
+const MOST_ADDED: usize = 8;
 
 /// A fix, with the new text and its tree.
 #[derive(Drop)]
@@ -50,7 +55,37 @@ fn try_new(
     Ok(None)
 }
 
-// Returns the text with a replacement, if it has fewer errors than this number.
+// Returns whether the bytes that a replacement keeps are among those that it replaces.
+fn keeps_inside(replacement: &Replacement) -> bool
+    ensures { result ≡ keeps_inside replacement.now }
+{
+    let (range, kept) = (replacement.range, replacement.kept);
+    range.start() <= kept.start() && kept.end() <= range.end()
+}
+
+// Returns the number of bytes that a replacement removes.
+fn removed(replacement: &Replacement) -> usize
+    ensures { result ≡ removed replacement.now }
+{
+    if keeps_inside(replacement) {
+        replacement
+            .range
+            .len()
+            .saturating_sub(replacement.kept.len())
+    } else {
+        replacement.range.len()
+    }
+}
+
+// Returns whether a replacement removes and adds few bytes.
+fn is_small(replacement: &Replacement) -> bool
+    ensures { result ≡ is_small replacement.now }
+{
+    let added = replacement.before.len() + replacement.after.len();
+    removed(replacement) <= MOST_REMOVED && added <= MOST_ADDED
+}
+
+// Returns the text with a replacement, if it is small and has fewer errors than this number.
 fn try_replacement(
     alloc: Global,
     text: &str,
@@ -61,6 +96,9 @@ fn try_replacement(
     ensures proposed { IfOk result (λ found. IfSome found (λ tried. IsProposed text.now replacement.now tried.fix)) }
     ensures none { IfOk result (λ found. IfNone found (DoesNotHelp text.now errors replacement.now)) }
 {
+    if !is_small(replacement) {
+        return Ok(None);
+    }
     match new_text(alloc, text, replacement)? {
         Some(new) => try_new(alloc, text, errors, replacement.range, new),
         None => Ok(None),

@@ -62,9 +62,9 @@ struct Change<'a> {
 // Prints the first errors of a text.
 fn write_errors(rt: &HostRuntime, command: &Command, name: &str, text: &str) -> io::Result<()> {
     let read = Root::parse(rt.alloc(), text)?;
-    let found = first_diagnostics(rt.alloc(), &read, LIMIT)?;
+    let found = first_diagnostics(rt.alloc(), &read, LIMIT + 1)?;
     let shown = display_name(name);
-    for diagnostic in &found.first {
+    for diagnostic in found.iter().take(LIMIT) {
         let (line, column) = location_of(text, diagnostic.range.start());
         let message = diagnostic.message.as_str();
         eprintln!(rt;
@@ -72,7 +72,7 @@ fn write_errors(rt: &HostRuntime, command: &Command, name: &str, text: &str) -> 
             command.name
         )?;
     }
-    if found.count > LIMIT {
+    if found.len() > LIMIT {
         eprintln!(rt;
             "{}: {shown}: more errors (rnix check shows them)",
             command.name

@@ -60,7 +60,7 @@ pub fn report_errors(rt: &HostRuntime, name: &str, text: &str, parse: &Parse) ->
         index: &index,
     };
     let mut out = BufWriter::new(rt.alloc(), rt.stderr())?;
-    for diagnostic in &first_diagnostics(rt.alloc(), parse, LIMIT)?.first {
+    for diagnostic in &first_diagnostics(rt.alloc(), parse, LIMIT)? {
         write_diagnostic(&source, diagnostic, &mut out)?;
     }
     out.flush()

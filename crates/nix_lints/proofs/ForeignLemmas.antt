@@ -2,9 +2,8 @@
 use Rattle.std.proofs.Common.{◌≡◌, ◌∙◌, ℕ, ◌+◌, ◌<◌, Bool, false, List, ◌∷◌, ◌++◌, length, drop, get_or, sym, ap, arith}
 use Rattle.std.proofs.lemmas.{Bool.Decides.nat_tests, List.{append_assoc, drop_more}}
 use Rattle.std.proofs.lemmas.Str.{IsCharBoundary-after_ascii}
-use Rattle.std.specs.{Prelude.{flat_map, IsUtf8}, Str.IsCharBoundary}
-use Rattle.rnix_green.specs.Walk.{Spot}
-use Rattle.nix_lints.specs.ForeignSpaces.{Run, is_foreign, run_if, runs_at, runs_from}
+use Rattle.std.specs.{Prelude.{IsUtf8}, Str.IsCharBoundary}
+use Rattle.nix_lints.specs.ForeignSpaces.{Run, is_foreign, run_if, runs_from}
 
 -- Nix's white space is ASCII
 blank_is_ascii : (byte : ℕ) → is_foreign byte ≡ false → byte < 128

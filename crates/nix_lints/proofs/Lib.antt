@@ -1,6 +1,5 @@
-pub mod DefinedNamesLemmas
-pub mod TableLemmas
-pub mod RepeatedLemmas
-pub mod RepeatedExamples
 pub mod ForeignLemmas
 pub mod ForeignExamples
+pub mod WordExamples
+pub mod NumberLemmas
+pub mod LintLemmas

@@ -1,4 +1,12 @@
-pub mod Attributes
-pub mod Repeated
-pub mod DefinedNames
+pub mod Found
 pub mod ForeignSpaces
+pub mod CalledData
+pub mod BarePath
+pub mod Parentheses
+pub mod ManualInherit
+pub mod LargeInteger
+pub mod UnboundNames
+pub mod DynamicName
+pub mod Nodes
+pub mod Lints
+pub mod Words

@@ -1,13 +1,20 @@
-//! Findings on texts without syntax errors: attributes that are defined twice, and white space that Nix refuses.
+//! Lints: what is wrong in texts without syntax errors, or could be said in fewer words. Each lint is a file, and a line of `all_lints.rt` or `nodes.rt`.
 #![tactic(auto)]
 
-mod attributes;
-mod definition;
-mod entries;
+mod all_lints;
+mod bare_path;
+mod called_data;
+mod dynamic_name;
+mod finding;
 mod foreign;
-mod homes;
-mod repeated;
+mod large_integer;
+mod manual_inherit;
+mod names;
+mod nodes;
+mod parentheses;
+mod words;
 
+pub use all_lints::lints;
+pub use finding::{Finding, Reason};
 pub use foreign::{ForeignSpace, foreign_spaces};
-pub use homes::Homes;
-pub use repeated::{Repeated, repeated_attributes};
+pub use words::{diagnostic, upper_digit};

@@ -3,7 +3,7 @@ use Rattle.std.proofs.Common.{◌≡◌, ◌∙◌, ℕ, List, [], ◌∷◌, �
 use Rattle.std.proofs.lemmas.Bool.{Decides.nat_tests}
 use Rattle.std.specs.Prelude.{◌==◌, ◌&&◌, not, flat_map, if◌then◌else◌}
 use Rattle.rnix_green.specs.Tree.{Located}
-use Rattle.nix_lints.specs.Repeated.{home_in}
+use Rattle.nix_attributes.specs.Repeated.{home_in}
 use Rattle.nix_scopes.specs.declared.added.Added.{Added}
 use Rattle.std.specs.{BTreeMap.is_at, Map.lookup, Ordering.nat_cmp}
 use Rattle.nix_scopes.specs.AddedNames.{names_in_list, names_for, AddsOwned}

@@ -4,9 +4,9 @@ use Rattle.std.specs.BTreeMap.{get}
 use Rattle.std.specs.Ordering.{nat_cmp}
 use Rattle.std.specs.declared.alloc.Global.{Global}
 use Rattle.rnix_green.specs.Tree.{Located}
-use Rattle.nix_lints.specs.Attributes.{home_by}
-use Rattle.nix_lints.specs.Repeated.{home_in}
-use Rattle.nix_lints.specs.declared.homes.Homes.{Homes}
+use Rattle.nix_attributes.specs.Attributes.{home_by}
+use Rattle.nix_attributes.specs.Repeated.{home_in}
+use Rattle.nix_attributes.specs.declared.homes.Homes.{Homes}
 use Rattle.nix_scopes.specs.declared.added.Added.{Added}
 use Rattle.nix_scopes.specs.declared.names.Name.{Name}
 use Rattle.nix_scopes.specs.Names.{Named}

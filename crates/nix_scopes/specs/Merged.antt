@@ -9,7 +9,7 @@ use Rattle.rnix_green.specs.Relatives.{parent_of}
 use Rattle.rnix_base.specs.Select.{nodes_of, child_of}
 use Rattle.rnix.specs.AttrName.{static_name}
 use Rattle.rnix.specs.NodeKinds.{is_attr}
-use Rattle.nix_lints.specs.Repeated.{home_in}
+use Rattle.nix_attributes.specs.Repeated.{home_in}
 use Rattle.nix_scopes.specs.Names.{Named, named_if}
 use Rattle.nix_scopes.specs.Binders.{names_bound, is_scope}
 use Rattle.nix_scopes.specs.References.{references_at}

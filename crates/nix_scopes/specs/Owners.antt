@@ -12,7 +12,7 @@ use Rattle.rnix_tree.specs.Siblings.{siblings_of}
 use Rattle.rnix_base.specs.Select.{nodes_of, child_of}
 use Rattle.rnix.specs.AttrName.{without_parens}
 use Rattle.rnix.specs.NodeKinds.{is_attr, is_expr}
-use Rattle.nix_lints.specs.Repeated.{home_in}
+use Rattle.nix_attributes.specs.Repeated.{home_in}
 use Rattle.nix_scopes.specs.Binders.{is_recursive}
 
 -- whether an expression is a set with `rec`, possibly in parentheses

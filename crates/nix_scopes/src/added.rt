@@ -12,7 +12,7 @@ ghost use Rattle.nix_scopes.specs.AddedNames.{names_in_list, names_for, AreHomes
 ghost use Rattle.nix_scopes.specs.Merged.{owned_by, owned_names, owned_in, owned_at, added_to};
 
 use crate::names::{Name, attr_name};
-use nix_lints::Homes;
+use nix_attributes::Homes;
 use rnix::SyntaxNode;
 use rnix::ast::{AstNode, Attr, Attrpath, AttrpathValue, Inherit};
 use std::alloc::{AllocError, Global};

@@ -18,7 +18,7 @@ use crate::name_roles::is_expression;
 use crate::names::{Name, attr_name};
 use crate::places::{Place, enter_scope, place_around, place_inside};
 use crate::resolution::{Binding, Reference, Resolution};
-use nix_lints::Homes;
+use nix_attributes::Homes;
 use rnix::ast::{AstNode, Attr, Inherit};
 use rnix::{NodeOrToken, SyntaxNode};
 use std::alloc::{AllocError, Global};

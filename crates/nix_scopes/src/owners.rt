@@ -6,13 +6,13 @@ ghost use Rattle.rnix_green.specs.Equality.{same_kind};
 ghost use Rattle.rnix_green.specs.Tree.{Located};
 ghost use Rattle.rnix_base.specs.Select.{nodes_of, child_of};
 ghost use Rattle.rnix.specs.NodeKinds.{is_attr, is_expr};
-ghost use Rattle.nix_lints.specs.Attributes.{home_by};
-ghost use Rattle.nix_lints.specs.Repeated.{home_in};
+ghost use Rattle.nix_attributes.specs.Attributes.{home_by};
+ghost use Rattle.nix_attributes.specs.Repeated.{home_in};
 ghost use Rattle.nix_scopes.specs.Owners.{is_recursive_value, has_recursive_value, may_merge, last_or, owner_of, last_name, is_entry, is_entry_path};
 ghost use Rattle.nix_scopes.specs.Owners.{owner_below, number_around};
 
 use crate::scopes::is_recursive;
-use nix_lints::Homes;
+use nix_attributes::Homes;
 use rnix::ast::{AstNode, Attrpath, AttrpathValue, Expr, without_parens};
 use rnix::{Direction, SyntaxKind, SyntaxNode};
 

@@ -19,7 +19,7 @@ use crate::owners::number_around;
 use crate::resolution::Binding;
 use crate::scopes::is_scope;
 use crate::symbols::copied;
-use nix_lints::Homes;
+use nix_attributes::Homes;
 use rnix::SyntaxNode;
 use std::alloc::{AllocError, Global};
 

@@ -5,7 +5,7 @@ use Rattle.rnix_green.specs.Tree.{Tree, Located}
 use Rattle.rnix_grammar.specs.Parsed.{IsParsed}
 use Rattle.rnix.specs.ParseResult.{Reading, root_of}
 use Rattle.rnix_edit.specs.Edited.{root_in, IsReadWithErrors}
-use Rattle.nix_lints.specs.Repeated.{repeated_in}
+use Rattle.nix_attributes.specs.Repeated.{repeated_in}
 use Rattle.nix_update.specs.declared.outcome.Outcome.{Outcome}
 use Rattle.nix_update.specs.declared.outcome.Outcome.TheVariants as outcome
 use Rattle.nix_update.specs.declared.outcome.Reason.{Reason}

@@ -13,7 +13,7 @@ use Rattle.rnix.specs.ParseResult.{Reading, root_of}
 use Rattle.rnix_edit.specs.Edited.{root_in, IsRemoved, IsInsertedAfter, IsInsertedInside}
 use Rattle.nix_scopes.specs.declared.resolution.Resolution.{Resolution}
 use Rattle.nix_scopes.specs.Alike.{IsResolution}
-use Rattle.nix_lints.specs.Repeated.{repeated_in}
+use Rattle.nix_attributes.specs.Repeated.{repeated_in}
 use Rattle.nix_update.specs.declared.meaning.Change.{Change}
 use Rattle.nix_update.specs.declared.path_match.PathMatch.TheVariants as matches
 use Rattle.nix_update.specs.declared.definitions.Definition.{Definition}

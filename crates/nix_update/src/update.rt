@@ -1,7 +1,7 @@
 //! Texts in which an attribute is set, added or removed.
 
 ghost use Rattle.std.specs.Prelude.{◌≡◌, ◌⊎◌, true, length, map, string_bytes, IfOk, IsTrue, IsFalse};
-ghost use Rattle.nix_lints.specs.Repeated.{repeated_in};
+ghost use Rattle.nix_attributes.specs.Repeated.{repeated_in};
 ghost use Rattle.nix_update.specs.OfRequest.{names_of, IsDefinitionRefusedFor, IsUndefinedOutcome, IsUndefinedRefusedFor, IsOutcomeFor, IsAttributeRefusedFor};
 ghost use Rattle.nix_update.specs.Updated.{IfMade, IfNew, HasNoMoreRepeated, IfUpdated, IfSetInLet, outcome_of, IsOnlySet, IsDefinitionUpdated};
 ghost use Rattle.nix_update.specs.declared.outcome.Reason.TheVariants as reason;
@@ -18,7 +18,7 @@ use crate::removing::remove_entry;
 use crate::request::{Action, Update};
 use crate::setting::set_entry;
 use crate::steps::{PathStep, path_steps};
-use nix_lints::repeated_attributes;
+use nix_attributes::repeated_attributes;
 use rnix::{Root, SyntaxNode};
 use std::alloc::{AllocError, Global};
 

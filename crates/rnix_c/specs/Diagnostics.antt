@@ -1,10 +1,10 @@
 -- What calls write for diagnostics.
-use Rattle.std.specs.Prelude.{◌≡◌, ℕ, ℤ, List, [], ◌∷◌, ◌++◌, length, fold, string_bytes}
+use Rattle.std.specs.Prelude.{◌≡◌, ℕ, ℤ, List, [], ◌∷◌, ◌++◌, false, length, fold, string_bytes}
 use Rattle.rnix_green.specs.Range.{bounds_of}
 use Rattle.rnix_green.specs.Tree.{Tree}
 use Rattle.rnix_grammar.specs.Fault.{Fault}
 use Rattle.nix_diagnostics.specs.declared.diagnostic.Diagnostic.{Diagnostic}
-use Rattle.nix_diagnostics.specs.Shown.{AreShown}
+use Rattle.nix_diagnostics.specs.Mistakes.{mistakes, AreWorded}
 use Rattle.rnix_c.specs.declared.diagnostics.RnixDiagnostic.{RnixDiagnostic}
 use Rattle.rnix_c.specs.Answers.{filled, IsWritten}
 use Rattle.rnix_c.specs.StringCalls.{located}
@@ -35,9 +35,9 @@ with_diagnostic before diagnostic =
 abbrev pub said_of : List Diagnostic → Said
 said_of all = fold with_diagnostic (said [] []) all
 
--- the diagnostics show the errors of a tree
+-- these are the diagnostics of the mistakes of a tree, each with a message
 abbrev pub AreSaid : Tree → List Fault → List Diagnostic → Type 0
-AreSaid tree faults all = AreShown (located tree 0) faults all
+AreSaid tree faults all = AreWorded (mistakes false (located tree 0) faults) all
 
 -- diagnostics that show the errors of a tree are written, together with their concatenated messages and the length of these
 abbrev pub WritesDiagnostics : Tree → List Fault → ℤ → List RnixDiagnostic → List RnixDiagnostic → List ℕ → List ℕ → ℕ → Type 0

@@ -12,7 +12,7 @@ const PROGRAM: Command = Command {
     help: "
 Checks, formats and changes Nix files. Each command has its own help: rnix help COMMAND, or rnix COMMAND --help.
 
-    check      report syntax errors, attributes defined twice, and white space that Nix refuses
+    check      report syntax errors, what Nix refuses besides, and probable mistakes
     format     write files in the style of Nixpkgs; also called fmt
     dead       report names that nothing uses
     names      list the bindings, and what each name refers to

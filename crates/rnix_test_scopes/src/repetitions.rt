@@ -1,6 +1,6 @@
 //! Repetitions in small texts: just what Nix 2.8 refuses is found.
 
-use nix_lints::repeated_attributes;
+use nix_attributes::repeated_attributes;
 use rnix::Root;
 use std::alloc::{AllocError, Global};
 use std::test::Fail;

@@ -1,24 +1,34 @@
-use Rattle.std.proofs.Common.{ℕ, ◌+◌, ◌==◌, Bool, List, arith, subst}
-use Rattle.nix_diagnostics.specs.declared.diagnostic.Diagnostic.{Diagnostic}
-use Rattle.nix_check.{specs.{Listed.Prints, PrintedFindings.IsPrinted}, proofs.ListedPieces.{none_printed, one_printed}}
+use Rattle.std.proofs.Common.{ℕ, ◌==◌, List, arith, subst}
+use Rattle.nix_check.{specs.{Items.Item, Listed.Prints, PrintedFindings.{IsPrintedItem, AreFormed}}, proofs.{ListedPieces.none_printed, PrintedDiagnostics.{item_printed, first_items}}}
 use Rattle.nix_check.proofs.check.write_first.Goals as goal
 
 pub loop-number-init : goal.loop-number-init
-loop-number-init g c =
-    none_printed
-    (λ (number : ℕ) (d : Diagnostic) (piece : List ℕ). IsPrinted c.args.style c.args.source.now.name.now c.args.source.now.text.now (number == 0) d piece)
-    c.args.earlier (g.W.Write.contents c.args.out.now)
+loop-number-init g c = λ items are. (
+  none_printed
+      (λ (number : ℕ) (item : Item) (piece : List ℕ).
+      IsPrintedItem c.args.style c.args.source.now.name.now c.args.source.now.text.now (number == 0) item piece)
+      c.args.earlier (g.W.Write.contents c.args.out.now),
+  are,
+)
 
 pub loop-number-preserved : goal.loop-number-preserved
-loop-number-preserved g c =
+loop-number-preserved g c = λ items are.
     let source = c.args.source.now in
-    let i = c.loop-number.number in
-    let mid = g.W.Write.contents c.loop-number.out in
-    let new = g.W.Write.contents c.write_diagnostic.new.out in
-    let own = c.index-found-number.result in
-    one_printed (λ (number : ℕ) (d : Diagnostic) (piece : List ℕ). IsPrinted c.args.style source.name.now source.text.now (number == 0) d piece)
-    c.args.earlier c.args.found.now i own (g.W.Write.contents c.args.out.now) mid new (omega (arith, c.loop-number-test.true)) c.loop-number.invariant
-    (subst (λ (d : Diagnostic). Prints (IsPrinted c.args.style source.name.now source.text.now (c.args.earlier + i == 0) d) mid new)
-    c.index-found-number.is
-    (subst (λ (is_first : Bool). Prints (IsPrinted c.args.style source.name.now source.text.now is_first own) mid new)
-    c.is_first_of_all-is_first.ensures c.in_ok-write_diagnostic.ensures))
+    let before = c.loop-number.invariant items are in
+    let given = c.in_ok-diagnostic.ensures items before.1 in (
+      item_printed c.args.style source.name.now source.text.now c.args.earlier items c.loop-number.number c.in_ok-diagnostic.diagnostic
+          c.is_first_of_all-is_first.result (g.W.Write.contents c.args.out.now) (g.W.Write.contents c.loop-number.out)
+          (g.W.Write.contents c.write_if.new.out)
+          (omega (arith, c.loop-number-test.true, c.min-number-end.ensures, c.len.ensures items are)) c.is_first_of_all-is_first.ensures given.1
+          c.in_ok-write_if.ensures before.0,
+      given.0,
+    )
+
+pub returns : goal.returns
+returns g c = λ items are.
+    let source = c.args.source.now in
+    subst (λ (shown : List Item). Prints (AreFormed c.args.style source.name.now source.text.now c.args.earlier shown) (g.W.Write.contents c.args.out.now)
+    (g.W.Write.contents c.loop-number.out))
+    (first_items items c.loop-number.number c.args.style.limit
+    (omega (arith, c.loop-number-test.false, c.loop-number.auto.number-end, c.min-number-end.ensures, c.len.ensures items are)))
+    (c.loop-number.invariant items are).0

@@ -26,4 +26,4 @@ returns g c =
     subst (λ (t : List ℕ). IsFixedUpTo MAX_TRIED t made.fixes (string_bytes made.text) made.errors) c.as_str.ensures.value c.in_ok-made.ensures.fixes in
     IsFileFixed.fixed text mid c.in_ok-remaining.remaining (search rules) c.read_text.ensures.kept
     (subst (λ (name : List ℕ). IsTextFixed c.args.style name text mid new c.in_ok-remaining.remaining) c.display_name.ensures
-    (c.in_ok-remaining.ensures text fixed)) c.with_errors.ensures
+    (c.in_ok-remaining.ensures text fixed)) c.with_counts.ensures

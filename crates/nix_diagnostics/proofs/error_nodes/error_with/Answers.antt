@@ -1,6 +1,6 @@
-use Rattle.std.proofs.Common.{◌∙◌, ap, sym, subst, Some}
+use Rattle.std.proofs.Common.{◌∙◌, ap, sym, subst}
 use Rattle.std.specs.Prelude.{IfSome}
-use Rattle.rnix_green.specs.Range.{Extent, bounds_of}
+use Rattle.rnix_green.specs.Range.{bounds_of}
 use Rattle.rnix.specs.WholeTree.{IsInTree}
 use Rattle.nix_diagnostics.specs.FaultNodes.{token_from, if_error}
 use Rattle.nix_diagnostics.proofs.FaultNodeLemmas.{error_there, no_error_there, kept_in_tree, parent_in_tree, value_in_tree}

@@ -1,4 +1,4 @@
-use Rattle.std.proofs.Common.{◌∙◌, sym}
+use Rattle.std.proofs.Common.{sym}
 use Rattle.nix_diagnostics.proofs.FaultNodeLemmas.{near_found, near_in_tree}
 use Rattle.nix_diagnostics.proofs.error_nodes.token_after.Goals as goal
 

@@ -1,4 +1,4 @@
-use Rattle.std.proofs.Common.{◌∙◌, ap, sym, reverse, refl}
+use Rattle.std.proofs.Common.{◌∙◌, ap, sym, reverse}
 use Rattle.nix_diagnostics.specs.Unmatched.{is_open, open_around}
 use Rattle.nix_diagnostics.proofs.UnmatchedLemmas.{is_open_inside, around_inside, is_open_here, around_here}
 use Rattle.nix_diagnostics.proofs.openings.close.Goals as goal

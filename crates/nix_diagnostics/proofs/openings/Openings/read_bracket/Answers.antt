@@ -1,6 +1,4 @@
 use Rattle.std.proofs.Common.{◌∙◌, ap, sym, reverse, false}
-use Rattle.std.specs.Prelude.{option_map}
-use Rattle.rnix_green.specs.Range.{bounds_of}
 use Rattle.nix_diagnostics.proofs.UnmatchedLemmas.{stays, found_now, read_on, opened, not_opened}
 use Rattle.nix_diagnostics.proofs.openings.Openings.read_bracket.Goals as goal
 

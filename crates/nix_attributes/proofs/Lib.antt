@@ -1,0 +1,4 @@
+pub mod DefinedNamesLemmas
+pub mod TableLemmas
+pub mod RepeatedLemmas
+pub mod RepeatedExamples

@@ -1,0 +1,3 @@
+pub mod Attributes
+pub mod Repeated
+pub mod DefinedNames
