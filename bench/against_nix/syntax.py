@@ -161,7 +161,8 @@ class Check:
 def wrong_with(text, root, errors, failure):
     """In a few words, how the verdicts differ, or nothing if docs/nix.md lists it."""
     if failure is None and not errors:
-        return "Nix accepts what rnix check reports beyond the grammar"
+        is_listed = any(is_zero_point(node) or inherits_nothing(node) for node in [root, *root.below()])
+        return None if is_listed else "Nix accepts what rnix check reports beyond the grammar"
     if failure is None:
         return None if any(it(text, root, errors[0]) for it in ACCEPTED_BY_NIX) else "Nix accepts it: " + re.sub(r" at \d.*", "", errors[0]["message"])[:60]
     if any(re.search(it, failure.said) for it in BEYOND_GRAMMAR) or any(it(node) for it in REFUSED_BY_NIX for node in [root, *root.below()]):
@@ -256,6 +257,11 @@ def is_indented_name(node):
 
 def is_zero_point(node):
     return node.kind == "TOKEN_FLOAT" and node.text == "0."
+
+
+def inherits_nothing(node):
+    """Whether an inherit has parentheses and no names: Nix does not look up the names in the parentheses."""
+    return node.kind == "NODE_INHERIT" and [it.kind for it in node.nodes()] == ["NODE_INHERIT_FROM"]
 
 
 def is_pipe(node):

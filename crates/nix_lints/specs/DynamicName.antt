@@ -19,10 +19,10 @@ is_same_node (Some one) other = one.number == other.number
 abbrev pub is_kind_around : SyntaxKind → Located → Bool
 is_kind_around kind node = is_kind_in (λ own. same_kind own kind) (parent_of node)
 
--- there is an entry, and it is one of a `let`
+-- there is a node, and it is an entry of a `let`
 abbrev pub is_entry_of_let : Option Located → Bool
 is_entry_of_let None = false
-is_entry_of_let (Some entry) = is_kind_around k.NODE_LET_IN entry
+is_entry_of_let (Some entry) = same_kind (item_of entry).kind k.NODE_ATTRPATH_VALUE && is_kind_around k.NODE_LET_IN entry
 
 -- a path is that of an entry of a `let`
 abbrev pub is_path_of_let : Located → Bool

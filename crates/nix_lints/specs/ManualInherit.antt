@@ -1,10 +1,10 @@
 -- Entries that an `inherit` says in fewer words.
-use Rattle.std.specs.Prelude.{Bool, false, ◌&&◌, ◌||◌, bytes_eq, List, [], ◌∷◌, Option, Some, None, is_none}
+use Rattle.std.specs.Prelude.{ℕ, ◌==◌, Bool, false, ◌&&◌, ◌||◌, bytes_eq, List, [], ◌∷◌, Option, Some, None, is_none}
 use Rattle.rnix_kinds.specs.declared.kinds.SyntaxKind.TheVariants as k
 use Rattle.rnix_green.specs.Equality.{same_kind}
 use Rattle.rnix_green.specs.Tree.{Located, item_of, text_at}
 use Rattle.rnix_green.specs.Relatives.{parent_of}
-use Rattle.rnix_base.specs.Select.{child_of, nodes_of, token_of}
+use Rattle.rnix_base.specs.Select.{child_of, nodes_of}
 use Rattle.rnix.specs.NodeKinds.{is_attr, is_expr}
 use Rattle.nix_diagnostics.specs.declared.code.Code.TheVariants as code
 use Rattle.nix_lints.specs.Found.{Found, found_if}
@@ -34,10 +34,15 @@ abbrev pub are_same_if : Option Located → Option Located → Bool
 are_same_if (Some one) (Some other) = are_same_word one other
 are_same_if one other = false
 
--- a node is a set without `rec`
+-- a text begins with a brace
+abbrev pub begins_with_brace : List ℕ → Bool
+begins_with_brace [] = false
+begins_with_brace (byte ∷ bytes) = byte == 123
+
+-- a node is a set without `rec`, which then begins with its brace
 abbrev pub is_plain_set : Option Located → Bool
 is_plain_set None = false
-is_plain_set (Some set) = same_kind (item_of set).kind k.NODE_ATTR_SET && is_none (token_of (same_kind k.TOKEN_REC) set)
+is_plain_set (Some set) = same_kind (item_of set).kind k.NODE_ATTR_SET && begins_with_brace (text_at set)
 
 -- the value of an entry is its own name, outside of `rec` and `let`
 abbrev pub is_own_name : Located → Bool

@@ -41,7 +41,7 @@ fn is_path_of_let(path: &SyntaxNode<'_>) -> bool
     ensures { result ≡ is_path_of_let path.now }
 {
     match path.parent() {
-        Some(entry) => is_kind_around(&entry, NODE_LET_IN),
+        Some(entry) => entry.kind() == NODE_ATTRPATH_VALUE && is_kind_around(&entry, NODE_LET_IN),
         None => false,
     }
 }

@@ -6,7 +6,7 @@ ghost use Rattle.rnix_green.specs.Equality.{same_kind};
 ghost use Rattle.rnix_base.specs.Select.{nodes_of};
 ghost use Rattle.rnix.specs.NodeKinds.{is_attr};
 ghost use Rattle.nix_lints.specs.Found.{found_of};
-ghost use Rattle.nix_lints.specs.ManualInherit.{single, only_name, are_same_word, are_same_if, is_plain_set, is_own_name, selects, is_selected_name, manual_inherit};
+ghost use Rattle.nix_lints.specs.ManualInherit.{single, only_name, are_same_word, are_same_if, begins_with_brace, is_plain_set, is_own_name, selects, is_selected_name, manual_inherit};
 
 use crate::finding::Finding;
 use crate::nodes::expression;
@@ -14,7 +14,7 @@ use SyntaxKind::*;
 use nix_diagnostics::{Code, Replacement};
 use rnix::ast::{AstNode, Attrpath};
 use rnix::{SyntaxKind, SyntaxNode};
-use rnix_base::{first_child, first_token};
+use rnix_base::first_child;
 
 // Returns the only name of a path.
 fn single<'t>(path: &Attrpath<'t>) -> Option<SyntaxNode<'t>>
@@ -55,12 +55,22 @@ fn are_same_if(one: &Option<SyntaxNode<'_>>, other: &Option<SyntaxNode<'_>>) -> 
     }
 }
 
-// Returns whether a node is a set without `rec`.
+// Returns whether a text begins with a brace.
+fn begins_with_brace(text: &[u8]) -> bool
+    ensures { result ≡ begins_with_brace text.now }
+{
+    match text.first() {
+        Some(byte) => *byte == b'{',
+        None => false,
+    }
+}
+
+// Returns whether a node is a set without `rec`, which then begins with its brace. Takes the same time for a set with many entries.
 fn is_plain_set(node: &Option<SyntaxNode<'_>>) -> bool
     ensures { result ≡ is_plain_set node.now }
 {
     match node {
-        Some(set) => set.kind() == NODE_ATTR_SET && first_token(set, TOKEN_REC).is_none(),
+        Some(set) => set.kind() == NODE_ATTR_SET && begins_with_brace(set.text().as_bytes()),
         None => false,
     }
 }

@@ -20,7 +20,8 @@ fn is_found(alloc: Global, case: &Case) -> Result<bool, AllocError> {
     Ok(found.len() == case.1.len())
 }
 
-const TEXTS: [Case; 23] = [
+const TEXTS: [Case; 24] = [
+    ("x: let a = x; in a.${x}", &[]),
     ("{ version = 1.2.3; }", &[("called-data", 12, 17)]),
     ("[ (\"a\" 1) ]", &[("called-data", 3, 8)]),
     ("f: f 1 \"a\"", &[]),
