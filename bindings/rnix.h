@@ -13,7 +13,8 @@
  * UTF-8 is always refused with RNIX_NOT_UTF8.
  *
  * docs/theorems.md, "Calls from C", says what is proved of the result of each call and of what it writes. This header, and callers in other
- * languages, are tested. Only rnix_parse_again and rnix_names_again take arrays that an earlier call has filled. They trust these arrays.
+ * languages, are tested. Only rnix_parse_again, rnix_names_again and rnix_analysis take arrays that an earlier call has filled. They trust these
+ * arrays.
  *
  * Any number of threads may call at the same time: calls share only the C library's malloc, realloc and free, which must be thread-safe. Do not
  * call from a signal handler. No text makes a call need a deep stack. The code needs a processor of the level x86-64-v2 (since about 2009).
@@ -29,7 +30,7 @@ extern "C" {
 #endif
 
 /* The version of the interface that this header describes. */
-#define RNIX_VERSION 6u
+#define RNIX_VERSION 7u
 
 /* Returns the version of the library's interface, which must be RNIX_VERSION. It changes with a function, a struct or a number of this header. */
 uint32_t rnix_version(void);
@@ -38,7 +39,7 @@ uint32_t rnix_version(void);
 enum rnix_refusal {
     RNIX_NOT_UTF8 = -1,   /* the text is not UTF-8 */
     RNIX_NO_MEMORY = -2,  /* malloc or realloc returned NULL, or the tree has 2^32 elements or more */
-    RNIX_NONE_SUCH = -3,  /* there is no such kind, name, error, diagnostic, string, range or unit of columns; no other refusal applies then */
+    RNIX_NONE_SUCH = -3,  /* there is no such kind, code, name, error, diagnostic, string, range or unit of columns; no other refusal applies then */
     RNIX_TOO_LONG = -4,   /* the text has 2^32 bytes or more; rnix_tokens has no such limit */
     RNIX_HAS_ERRORS = -5, /* the text has errors (rnix_format) */
     RNIX_DIFFERENT = -6   /* a bug of the formatter: its text would differ in more than white space, or change if formatted again (rnix_format) */
@@ -275,12 +276,33 @@ enum rnix_unit {
     RNIX_UTF16 = 2  /* UTF-16 code units, as the Language Server Protocol counts */
 };
 
-/* A diagnostic, which describes an error for people: 32 bytes. */
+/* How serious a diagnostic is. The numbers are those of the Language Server Protocol. */
+enum rnix_severity {
+    RNIX_ERROR = 1,  /* Nix refuses the text, or this library does not parse all of it */
+    RNIX_WARNING = 2 /* Nix accepts the text, but it is probably a mistake, or could be said in fewer words */
+};
+
+/* A diagnostic, which says in words for people what is wrong: 48 bytes. */
 struct rnix_diagnostic {
     uint64_t start; /* the range of the text to mark; empty if something is missing at the end */
     uint64_t end;
-    uint64_t message_start; /* the range of the message in the joined messages */
+    uint64_t message_start; /* the range of the message in the joined texts */
     uint64_t message_end;
+    uint64_t note_end; /* its notes are those from the note_end of the diagnostic before it (0 for the first) up to this number */
+    uint32_t code;     /* the number of its code; rnix_code_name writes the name, such as syntax-error, which is the same in every version */
+    uint32_t severity; /* enum rnix_severity */
+};
+
+/* A note on a diagnostic, which may propose a replacement for a range of the text: 64 bytes. */
+struct rnix_note {
+    uint64_t start; /* the range of the text that it is about; both RNIX_NO_NUMBER if that is the range of its diagnostic */
+    uint64_t end;
+    uint64_t message_start; /* the range of its message in the joined texts */
+    uint64_t message_end;
+    uint64_t replaced_start; /* the range of the text to replace, empty where something is inserted; both RNIX_NO_NUMBER if it proposes nothing */
+    uint64_t replaced_end;
+    uint64_t text_start; /* the range of the proposed text in the joined texts; empty if it removes bytes, or proposes nothing */
+    uint64_t text_end;
 };
 
 /* A fix of a text: 24 bytes. */
@@ -374,19 +396,27 @@ int64_t rnix_error_text(const uint8_t *text, size_t len, size_t error, uint8_t *
 int64_t rnix_error_texts(const uint8_t *text, size_t len, uint8_t *buffer, size_t room);
 
 /*
- * Writes the diagnostics of a text, which describe its errors in plain words, and their joined messages in UTF-8, and the length of these to
- * *buffer_len (not NULL). A diagnostic may stand for several errors in a row, which follow from the first of them.
+ * Writes the diagnostics of a text: its syntax errors in plain words or, if it has none, what the lints find (docs/lints.md), unused names included,
+ * but for what a comment in the text leaves out. Writes their notes, and the number of notes to *note_count (not NULL), and the joined messages and
+ * proposed texts in UTF-8, and the length of these to *buffer_len (not NULL). A diagnostic may stand for several errors in a row, which follow from
+ * the first of them. The replacement that a note on a syntax error proposes is a guess; rnix_fix tries the guesses.
  * Returns the number of diagnostics. Refusals: RNIX_NOT_UTF8, RNIX_TOO_LONG, RNIX_NO_MEMORY.
  */
-int64_t rnix_diagnostics(const uint8_t *text, size_t len, struct rnix_diagnostic *diagnostics, size_t room, uint8_t *buffer, size_t buffer_room,
-                         uint64_t *buffer_len);
+int64_t rnix_diagnostics(const uint8_t *text, size_t len, struct rnix_diagnostic *diagnostics, size_t room, struct rnix_note *notes,
+                         size_t note_room, uint64_t *note_count, uint8_t *buffer, size_t buffer_room, uint64_t *buffer_len);
 
 /*
- * Writes a fix of one diagnostic of a text (its number in rnix_diagnostics, from 0) to *fix (not NULL), and the new text for its range in UTF-8 to
- * `buffer`, without a terminating zero. With the fix, the text is UTF-8 and has fewer errors. The text is parsed, and then parsed again with each
- * of the guesses at what was meant, up to the first that is a fix; there are at most three guesses.
+ * Writes the name of a code in ASCII, such as syntax-error, without a terminating zero. The codes have the numbers from 0 on.
+ * Returns the number of bytes. Refusal: RNIX_NONE_SUCH if no code has the number.
+ */
+int64_t rnix_code_name(uint32_t code, uint8_t *buffer, size_t room);
+
+/*
+ * Writes a fix of one diagnostic of a text with syntax errors (its number in rnix_diagnostics, from 0) to *fix (not NULL), and the new text for its
+ * range in UTF-8 to `buffer`, without a terminating zero. With the fix, the text is UTF-8 and has fewer errors. The text is parsed, and then parsed
+ * again with each of the guesses at what was meant, up to the first that is a fix; there are at most three guesses.
  * Returns 1, or 0 if no guess is a fix; then nothing is written. Refusals: RNIX_NOT_UTF8, RNIX_TOO_LONG, RNIX_NO_MEMORY; RNIX_NONE_SUCH if no
- * diagnostic has the number.
+ * diagnostic has the number, or the text has no syntax errors.
  */
 int64_t rnix_fix(const uint8_t *text, size_t len, size_t diagnostic, struct rnix_fix *fix, uint8_t *buffer, size_t room);
 
@@ -449,12 +479,17 @@ int64_t rnix_names_again(const uint8_t *text, size_t len, const struct rnix_rang
                          struct rnix_reference *references, size_t reference_room, uint64_t *reference_count);
 
 /*
- * Parses a text once, and writes what rnix_names and rnix_diagnostics write, and the number of diagnostics to *diagnostic_count (not NULL).
+ * Writes what rnix_names and rnix_diagnostics write, and the number of diagnostics to *diagnostic_count (not NULL). A text with errors is parsed
+ * once. A text without errors is not parsed: `ranges`, `links` and `error_count` are what rnix_parse_compact or rnix_parse_again has written for the
+ * text: all of its elements. `range_count` and `link_count` are the number of elements that it returned, not the room of the arrays. Nothing of this
+ * is checked: with other arrays or numbers, the behavior is undefined.
  * Returns the number of bindings. Refusals: RNIX_NOT_UTF8, RNIX_TOO_LONG, RNIX_NO_MEMORY.
  */
-int64_t rnix_analysis(const uint8_t *text, size_t len, struct rnix_binding *bindings, size_t binding_room, struct rnix_reference *references,
-                      size_t reference_room, uint64_t *reference_count, struct rnix_diagnostic *diagnostics, size_t room,
-                      uint64_t *diagnostic_count, uint8_t *buffer, size_t buffer_room, uint64_t *buffer_len);
+int64_t rnix_analysis(const uint8_t *text, size_t len, const struct rnix_range *ranges, size_t range_count, const struct rnix_link *links,
+                      size_t link_count, uint64_t error_count, struct rnix_binding *bindings, size_t binding_room,
+                      struct rnix_reference *references, size_t reference_room, uint64_t *reference_count, struct rnix_diagnostic *diagnostics,
+                      size_t room, uint64_t *diagnostic_count, struct rnix_note *notes, size_t note_room, uint64_t *note_count, uint8_t *buffer,
+                      size_t buffer_room, uint64_t *buffer_len);
 
 /*
  * Writes a text without errors in the style of Nixpkgs, in UTF-8, without a terminating zero: the same tokens, comments included, with other white

@@ -240,7 +240,7 @@ def ends_comment(text, root, error):
 ACCEPTED_BY_NIX = [has_nul, ends_comment, is_inversion, is_old_let, is_error_token, is_path_of_dots, is_zero_selected, is_or_of_zero]
 
 # What Nix refuses and rnix does not: what it says beyond the grammar, and what the tree shows.
-BEYOND_GRAMMAR = ["duplicate formal function argument", "dynamic attributes not allowed in (let|inherit)", "invalid float"]
+BEYOND_GRAMMAR = ["invalid float"]
 
 
 def is_lambda_operand(node):

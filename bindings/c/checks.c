@@ -36,13 +36,15 @@ static void check_structs(void) {
     CHECK(sizeof(struct rnix_part) == 24);
     CHECK(sizeof(struct rnix_string_part) == 32);
     CHECK(sizeof(struct rnix_position) == 16);
-    CHECK(sizeof(struct rnix_diagnostic) == 32);
+    CHECK(sizeof(struct rnix_diagnostic) == 48);
+    CHECK(sizeof(struct rnix_note) == 64);
     CHECK(sizeof(struct rnix_fix) == 24);
     CHECK(sizeof(struct rnix_binding) == 48);
     CHECK(sizeof(struct rnix_reference) == 40);
     CHECK(offsetof(struct rnix_element, kind) == 32);
     CHECK(offsetof(struct rnix_link, is_token) == 10);
     CHECK(offsetof(struct rnix_error, wanted) == 16);
+    CHECK(offsetof(struct rnix_diagnostic, severity) == 44);
 }
 
 static const char *const names[] = RNIX_KIND_NAMES;
@@ -264,16 +266,131 @@ static void check_positions(void) {
     CHECK(rnix_positions(text, len, UINT32_MAX, NULL, 0, NULL, 0) == RNIX_NONE_SUCH);
 }
 
+/* What rnix_diagnostics writes of a text. */
+struct described {
+    struct rnix_diagnostic diagnostics[8];
+    struct rnix_note notes[8];
+    uint64_t note_count;
+    uint8_t texts[512];
+    uint64_t texts_len;
+    int64_t count;
+};
+
+/* Describes a text into arrays of which so many items may be written, and so many bytes of the texts for each. */
+static struct described described_in(const char *of, size_t room, size_t note_room, size_t buffer_room) {
+    struct described found;
+    memset(&found, 0x5a, sizeof found);
+    found.count = rnix_diagnostics((const uint8_t *)of, strlen(of), found.diagnostics, room, found.notes, note_room, &found.note_count, found.texts,
+                                   buffer_room, &found.texts_len);
+    return found;
+}
+
+static struct described described(const char *of) {
+    const struct described found = described_in(of, 8, 8, sizeof found.texts);
+    CHECK(found.count >= 0 && found.count <= 8 && found.note_count <= 8 && found.texts_len <= sizeof found.texts);
+    CHECK(found.note_count == (found.count > 0 ? found.diagnostics[found.count - 1].note_end : 0));
+    return found;
+}
+
+/* Whether a range of the joined texts is a text. */
+static int is_text(const struct described *found, uint64_t start, uint64_t end, const char *wanted) {
+    return start <= end && end <= found->texts_len && end - start == strlen(wanted) && memcmp(found->texts + start, wanted, strlen(wanted)) == 0;
+}
+
+/* Whether a diagnostic has a code and a message. */
+static int says(const struct described *found, size_t number, const char *code, const char *message) {
+    const struct rnix_diagnostic *one = &found->diagnostics[number];
+    uint8_t name[32];
+    int64_t count = rnix_code_name(one->code, name, sizeof name);
+    return count == (int64_t)strlen(code) && memcmp(name, code, strlen(code)) == 0 &&
+           is_text(found, one->message_start, one->message_end, message);
+}
+
+/* Whether a note has no proposal. */
+static int proposes_nothing(const struct rnix_note *note) {
+    return note->replaced_start == RNIX_NO_NUMBER && note->replaced_end == RNIX_NO_NUMBER && note->text_start == note->text_end;
+}
+
+static void check_codes(void) {
+    static const char *const codes[] = {
+        "syntax-error",  "nested-too-deep", "repeated-attribute", "foreign-space",        "unbound-name",   "dynamic-name",
+        "large-integer", "called-data",     "bare-path",          "needless-parentheses", "manual-inherit", "unused-name",
+        "needless-with", "repeated-argument",
+    };
+    const uint32_t count = sizeof codes / sizeof *codes;
+    uint8_t name[32];
+    for (uint32_t code = 0; code < count; code++) {
+        CHECK(rnix_code_name(code, name, sizeof name) == (int64_t)strlen(codes[code]) && memcmp(name, codes[code], strlen(codes[code])) == 0);
+    }
+    memset(name, 0x5a, sizeof name);
+    CHECK(rnix_code_name(0, name, 3) == 12 && memcmp(name, "syn\x5a", 4) == 0);
+    CHECK(rnix_code_name(0, NULL, 0) == 12);
+    CHECK(rnix_code_name(UINT32_MAX, name, sizeof name) == RNIX_NONE_SUCH && memcmp(name, "syn\x5a", 4) == 0);
+}
+
+static void check_syntax_errors(void) {
+    const struct described found = described("{ a = 1 }");
+    const struct rnix_note *note = &found.notes[0];
+    CHECK(found.count == 1 && says(&found, 0, "syntax-error", "expected \";\" after the value of \"a\", found \"}\""));
+    CHECK(found.diagnostics[0].start == 8 && found.diagnostics[0].end == 9 && found.diagnostics[0].severity == RNIX_ERROR);
+    CHECK(found.note_count == 1 && is_text(&found, note->message_start, note->message_end, "\";\" is missing here"));
+    CHECK(note->start == 7 && note->end == 7 && note->replaced_start == 7 && note->replaced_end == 7);
+    CHECK(is_text(&found, note->text_start, note->text_end, ";"));
+    const struct described list = described("[ 1, 2 ]");
+    note = &list.notes[0];
+    CHECK(list.note_count == 1 && is_text(&list, note->message_start, note->message_end, "list items are separated by white space alone"));
+    CHECK(note->start == RNIX_NO_NUMBER && note->end == RNIX_NO_NUMBER);
+    CHECK(note->replaced_start == 3 && note->replaced_end == 4 && note->text_start == note->text_end);
+}
+
+static void check_lints(void) {
+    const struct described repeated = described("{ a = 1; a = 2; }");
+    CHECK(repeated.count == 1 && says(&repeated, 0, "repeated-attribute", "this attribute is already defined"));
+    CHECK(repeated.diagnostics[0].start == 9 && repeated.diagnostics[0].end == 10 && repeated.diagnostics[0].severity == RNIX_ERROR);
+    const struct rnix_note *note = &repeated.notes[0];
+    CHECK(repeated.note_count == 1 && is_text(&repeated, note->message_start, note->message_end, "first defined here"));
+    CHECK(note->start == 2 && note->end == 3 && proposes_nothing(note));
+    const struct described warned = described("{ a = (1); }");
+    CHECK(warned.count == 1 && says(&warned, 0, "needless-parentheses", "these parentheses change nothing"));
+    CHECK(warned.diagnostics[0].start == 6 && warned.diagnostics[0].end == 9 && warned.diagnostics[0].severity == RNIX_WARNING);
+    note = &warned.notes[0];
+    CHECK(warned.note_count == 1 && note->start == RNIX_NO_NUMBER && note->replaced_start == 6 && note->replaced_end == 9);
+    CHECK(is_text(&warned, note->text_start, note->text_end, "1"));
+    const struct described unused = described("let a = 1; in 2");
+    CHECK(unused.count == 1 && says(&unused, 0, "unused-name", "nothing uses this name"));
+    CHECK(unused.diagnostics[0].start == 4 && unused.diagnostics[0].end == 5 && unused.diagnostics[0].severity == RNIX_WARNING);
+    const struct described clean = described("1");
+    CHECK(clean.count == 0 && clean.note_count == 0 && clean.texts_len == 0);
+    const struct described ignored = described("{ a = 1;\n# nix-check: ignore repeated-attribute\na = 2; }");
+    CHECK(ignored.count == 0);
+}
+
+/* With less room, the first items are those of full arrays, what is behind them stays, and the numbers are the same. */
+static void check_rooms_of_diagnostics(const char *of) {
+    const struct described full = described(of);
+    CHECK(full.count == 3 && full.note_count == 3);
+    for (size_t room = 0; room <= 3; room++) {
+        for (size_t note_room = 0; note_room <= 3; note_room++) {
+            const struct described some = described_in(of, room, note_room, 16 * room);
+            struct described wanted;
+            memset(&wanted, 0x5a, sizeof wanted);
+            memcpy(wanted.diagnostics, full.diagnostics, room * sizeof *full.diagnostics);
+            memcpy(wanted.notes, full.notes, note_room * sizeof *full.notes);
+            memcpy(wanted.texts, full.texts, 16 * room);
+            wanted.note_count = full.note_count;
+            wanted.texts_len = full.texts_len;
+            wanted.count = full.count;
+            CHECK(memcmp(&some, &wanted, sizeof some) == 0);
+        }
+    }
+}
+
 static void check_diagnostics(void) {
-    static const char wrong[] = "{ a = 1 }";
-    struct rnix_diagnostic found[4];
-    uint8_t said[256];
-    uint64_t said_len = 0;
-    int64_t count = rnix_diagnostics((const uint8_t *)wrong, sizeof wrong - 1, found, 4, said, sizeof said, &said_len);
-    static const char message[] = "expected \";\" after the value of \"a\", found \"}\"";
-    CHECK(count >= 1 && found[0].start == 8 && found[0].end == 9);
-    CHECK(found[0].message_start == 0 && found[0].message_end == sizeof message - 1 && memcmp(said, message, sizeof message - 1) == 0);
-    CHECK(rnix_diagnostics((const uint8_t *)"a", 1, NULL, 0, NULL, 0, &said_len) == 0 && said_len == 0);
+    check_codes();
+    check_syntax_errors();
+    check_lints();
+    check_rooms_of_diagnostics("{ a = 1; b = 1; a = 2; c = (1); b = 3; }");
+    check_rooms_of_diagnostics("{ a = [ 1, 2 ]; b = '1'; c = 1 }");
 }
 
 /* Whether the fix of the first diagnostic of a text replaces a range by a new text. */
@@ -341,26 +458,50 @@ static void check_names_again(void) {
     }
 }
 
-/* One call writes what rnix_names and rnix_diagnostics write, for each of a few rooms. */
+/* What rnix_analysis writes. */
+struct analysis {
+    struct rnix_binding bindings[4];
+    struct rnix_reference references[4];
+    struct rnix_diagnostic diagnostics[4];
+    struct rnix_note notes[4];
+    uint8_t texts[256];
+    uint64_t counts[4];
+    int64_t count;
+};
+
+/* Writes all of it with one call, from what is kept of the text. */
+static struct analysis analysis_of(const char *of, size_t room) {
+    const struct kept kept = kept_of(of);
+    struct analysis all;
+    memset(&all, 0x5a, sizeof all);
+    all.count = rnix_analysis((const uint8_t *)of, strlen(of), kept.ranges, (size_t)kept.count, kept.links, (size_t)kept.count, kept.error_count,
+                              all.bindings, room, all.references, room, &all.counts[0], all.diagnostics, room, &all.counts[1], all.notes, room,
+                              &all.counts[2], all.texts, 64 * room, &all.counts[3]);
+    return all;
+}
+
+/* Writes all of it with two calls. */
+static struct analysis names_and_diagnostics(const char *of, size_t room) {
+    struct analysis all;
+    memset(&all, 0x5a, sizeof all);
+    all.count = rnix_names((const uint8_t *)of, strlen(of), all.bindings, room, all.references, room, &all.counts[0]);
+    all.counts[1] = (uint64_t)rnix_diagnostics((const uint8_t *)of, strlen(of), all.diagnostics, room, all.notes, room, &all.counts[2], all.texts,
+                                               64 * room, &all.counts[3]);
+    return all;
+}
+
+/* One call writes what rnix_names and rnix_diagnostics write, for each of a few rooms: in a text with errors, with lints, and with neither. */
 static void check_analysis(void) {
-    static const char let[] = "let a = 1; in [ (x: a x";
-    struct written {
-        struct rnix_binding bindings[4];
-        struct rnix_reference references[4];
-        struct rnix_diagnostic diagnostics[4];
-        uint8_t said[256];
-        uint64_t counts[3];
-    } both, apart;
-    for (size_t room = 0; room <= 4; room++) {
-        memset(&both, 0x5a, sizeof both);
-        memset(&apart, 0x5a, sizeof apart);
-        int64_t answer = rnix_analysis((const uint8_t *)let, sizeof let - 1, both.bindings, room, both.references, room, &both.counts[0],
-                                       both.diagnostics, room, &both.counts[1], both.said, 64 * room, &both.counts[2]);
-        CHECK(answer == rnix_names((const uint8_t *)let, sizeof let - 1, apart.bindings, room, apart.references, room, &apart.counts[0]));
-        int64_t count = rnix_diagnostics((const uint8_t *)let, sizeof let - 1, apart.diagnostics, room, apart.said, 64 * room, &apart.counts[2]);
-        apart.counts[1] = (uint64_t)count;
-        CHECK(answer == 2 && both.counts[0] == 2 && both.counts[1] == 1 && both.counts[2] > 10);
-        CHECK(memcmp(&both, &apart, sizeof both) == 0);
+    static const char *const texts[] = {"let a = 1; in [ (x: a x", "let a = 1; in x: [ (a) x (y: a) ]", "let a = 1; in a"};
+    static const uint64_t diagnostics[] = {1, 2, 0};
+    static const int64_t bindings[] = {2, 3, 1};
+    for (size_t number = 0; number < 3; number++) {
+        for (size_t room = 0; room <= 4; room++) {
+            const struct analysis together = analysis_of(texts[number], room), apart = names_and_diagnostics(texts[number], room);
+            CHECK(memcmp(&together, &apart, sizeof together) == 0);
+            CHECK(together.count == bindings[number] && together.counts[1] == diagnostics[number]);
+            CHECK((together.counts[3] > 10) == (diagnostics[number] > 0));
+        }
     }
 }
 
@@ -385,9 +526,11 @@ static void check_refusals(void) {
     CHECK(rnix_string_text(bytes, sizeof bytes, 0, NULL, 0) == RNIX_NOT_UTF8);
     CHECK(rnix_string_parts(bytes, sizeof bytes, 0, NULL, 0) == RNIX_NOT_UTF8);
     CHECK(rnix_strings(bytes, sizeof bytes, NULL, 0, NULL, 0, &errors) == RNIX_NOT_UTF8 && errors == 7);
-    CHECK(rnix_diagnostics(bytes, sizeof bytes, NULL, 0, NULL, 0, &errors) == RNIX_NOT_UTF8 && errors == 7);
+    CHECK(rnix_diagnostics(bytes, sizeof bytes, NULL, 0, NULL, 0, &errors, NULL, 0, &errors) == RNIX_NOT_UTF8 && errors == 7);
     CHECK(rnix_names(bytes, sizeof bytes, NULL, 0, NULL, 0, &errors) == RNIX_NOT_UTF8 && errors == 7);
-    CHECK(rnix_analysis(bytes, sizeof bytes, NULL, 0, NULL, 0, &errors, NULL, 0, &errors, NULL, 0, &errors) == RNIX_NOT_UTF8 && errors == 7);
+    CHECK(rnix_analysis(bytes, sizeof bytes, NULL, 0, NULL, 0, 1, NULL, 0, NULL, 0, &errors, NULL, 0, &errors, NULL, 0, &errors, NULL, 0, &errors) ==
+              RNIX_NOT_UTF8 &&
+          errors == 7);
     struct rnix_fix fix = {7, 7, 7};
     CHECK(rnix_fix(bytes, sizeof bytes, 0, &fix, NULL, 0) == RNIX_NOT_UTF8 && fix.start == 7 && fix.end == 7 && fix.text_len == 7);
     CHECK(rnix_positions(bytes, sizeof bytes, 0, NULL, 0, NULL, 0) == RNIX_NOT_UTF8);
@@ -449,20 +592,38 @@ static struct rooms {
     struct rnix_string_part string_parts[8];
     struct rnix_position positions[2];
     struct rnix_diagnostic diagnostics[4];
+    struct rnix_note notes[4];
     struct rnix_fix fix;
     struct rnix_binding bindings[4];
     struct rnix_reference references[4];
     uint8_t bytes[512];
     uint64_t count;
-    uint64_t others[2];
+    uint64_t others[3];
 } rooms, untouched;
 
-enum { CALLS = 15 };
+enum { CALLS = 17 };
 
 /* A text without errors, what is kept of it, and what an edit of it writes. */
 static const char clean[] = "x: [ 1 x ]";
 static const uint8_t clean_new[] = {'(', '3', ')'};
 static struct kept clean_kept;
+
+/* Another one, in which the lints find something. */
+static const char linted[] = "{ a = 1; a = (x: 2); }";
+static struct kept linted_kept, sample_kept;
+
+/* Calls rnix_analysis for a text, with what is kept of it. */
+static int64_t analyse(const char *of, const struct kept *kept) {
+    return rnix_analysis((const uint8_t *)of, strlen(of), kept->ranges, (size_t)kept->count, kept->links, (size_t)kept->count, kept->error_count,
+                         rooms.bindings, 4, rooms.references, 4, &rooms.count, rooms.diagnostics, 4, &rooms.others[0], rooms.notes, 4,
+                         &rooms.others[1], rooms.bytes, sizeof rooms.bytes, &rooms.others[2]);
+}
+
+/* Calls rnix_diagnostics for a text. */
+static int64_t describe(const char *of) {
+    return rnix_diagnostics((const uint8_t *)of, strlen(of), rooms.diagnostics, 4, rooms.notes, 4, &rooms.count, rooms.bytes, sizeof rooms.bytes,
+                            &rooms.others[0]);
+}
 
 /* A call of each function that allocates; its arrays are those of `rooms`. */
 static int64_t call(int number, size_t string) {
@@ -476,13 +637,11 @@ static int64_t call(int number, size_t string) {
     case 5: return rnix_string_text(text, len, string, rooms.bytes, sizeof rooms.bytes);
     case 6: return rnix_string_parts(text, len, string, rooms.parts, 8);
     case 7: return rnix_strings(text, len, rooms.string_parts, 8, rooms.bytes, sizeof rooms.bytes, &rooms.count);
-    case 8: return rnix_diagnostics(text, len, rooms.diagnostics, 4, rooms.bytes, sizeof rooms.bytes, &rooms.count);
+    case 8: return describe(sample);
     case 9: return rnix_names(text, len, rooms.bindings, 4, rooms.references, 4, &rooms.count);
     case 10: return rnix_parse_compact(text, len, rooms.ranges, 64, rooms.links, 64, rooms.errors, 4, &rooms.count);
     case 11: return rnix_fix(text, len, 0, &rooms.fix, rooms.bytes, sizeof rooms.bytes);
-    case 12:
-        return rnix_analysis(text, len, rooms.bindings, 4, rooms.references, 4, &rooms.count, rooms.diagnostics, 4, &rooms.others[0], rooms.bytes,
-                             sizeof rooms.bytes, &rooms.others[1]);
+    case 12: return analyse(sample, &sample_kept);
     case 13:
         return rnix_parse_again((const uint8_t *)clean, sizeof clean - 1, clean_kept.ranges, (size_t)clean_kept.count, clean_kept.links,
                                 (size_t)clean_kept.count, 0, 5, 6, clean_new, sizeof clean_new, rooms.ranges, 64, rooms.links, 64, rooms.errors, 4,
@@ -490,6 +649,8 @@ static int64_t call(int number, size_t string) {
     case 14:
         return rnix_names_again((const uint8_t *)clean, sizeof clean - 1, clean_kept.ranges, (size_t)clean_kept.count, clean_kept.links,
                                 (size_t)clean_kept.count, 0, rooms.bindings, 4, rooms.references, 4, &rooms.count);
+    case 15: return describe(linted);
+    case 16: return analyse(linted, &linted_kept);
     default: return rnix_positions(text, len, RNIX_UTF16, offsets, 2, rooms.positions, 2);
     }
 }
@@ -499,6 +660,8 @@ static void check_memory(void) {
     size_t string = first_of(RNIX_NODE_STRING);
     memset(&untouched, 0x5a, sizeof untouched);
     clean_kept = kept_of(clean);
+    linted_kept = kept_of(linted);
+    sample_kept = kept_of(sample);
     for (int number = 0; number <= CALLS; number++) {
         int64_t answer = RNIX_NO_MEMORY;
         long given = 1;
@@ -536,13 +699,13 @@ static void check_empty(void) {
     CHECK(rnix_error_text(NULL, 0, SIZE_MAX, NULL, 0) == RNIX_NONE_SUCH);
     CHECK(rnix_string_text(NULL, 0, 0, NULL, 0) == RNIX_NONE_SUCH && rnix_string_parts(NULL, 0, SIZE_MAX, NULL, 0) == RNIX_NONE_SUCH);
     CHECK(rnix_strings(NULL, 0, NULL, 0, NULL, 0, &count) == 0 && count == 0);
-    CHECK(rnix_diagnostics(NULL, 0, NULL, 0, NULL, 0, &count) == 1 && count > 0);
+    uint64_t note_count = 7;
+    CHECK(rnix_diagnostics(NULL, 0, NULL, 0, NULL, 0, &note_count, NULL, 0, &count) == 1 && note_count == 0 && count > 0);
     CHECK(rnix_names(NULL, 0, NULL, 0, NULL, 0, &count) == 0 && count == 0);
     struct rnix_fix fix;
     CHECK(rnix_fix(NULL, 0, 0, &fix, NULL, 0) == 0 && rnix_fix(NULL, 0, 1, &fix, NULL, 0) == RNIX_NONE_SUCH);
-    uint64_t counts[3] = {7, 7, 7};
-    CHECK(rnix_analysis(NULL, 0, NULL, 0, NULL, 0, &counts[0], NULL, 0, &counts[1], NULL, 0, &counts[2]) == 0);
-    CHECK(counts[0] == 0 && counts[1] == 1 && counts[2] > 0);
+    const struct analysis empty = analysis_of("", 0);
+    CHECK(empty.count == 0 && empty.counts[0] == 0 && empty.counts[1] == 1 && empty.counts[2] == 0 && empty.counts[3] > 0);
     CHECK(rnix_positions(NULL, 0, RNIX_BYTES, NULL, 0, NULL, 0) == 0);
     CHECK(rnix_format(NULL, 0, NULL, 0) == RNIX_HAS_ERRORS);
 }

@@ -17,7 +17,7 @@ from rnix.edits import EditError, Edits
 from rnix.errors import ParseError
 from rnix.formatting import FormatError, formatted
 from rnix.library import KINDS, Refused
-from rnix.messages import Diagnostic, Fix, diagnostics, fix
+from rnix.messages import Diagnostic, Fix, Note, diagnostics, fix
 from rnix.scopes import Binding, Reference, Resolution, resolve
 from rnix.strings import parts, path_parts, value
 from rnix.tokenizer import Lexeme, tokenize
@@ -34,6 +34,7 @@ __all__ = [
     "FormatError",
     "Lexeme",
     "Node",
+    "Note",
     "ParseError",
     "Reference",
     "Refused",

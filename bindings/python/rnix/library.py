@@ -3,12 +3,13 @@
 from __future__ import annotations
 
 import ctypes
+import itertools
 import mmap
 import os
 import pathlib
-from typing import Any, Callable
+from typing import Any, Callable, Sequence
 
-VERSION = 6
+VERSION = 7
 NOT_UTF8, NO_MEMORY, NONE_SUCH, TOO_LONG, HAS_ERRORS, DIFFERENT = -1, -2, -3, -4, -5, -6
 NO_NUMBER = 2**64 - 1
 NO_KIND = 2**32 - 1
@@ -96,6 +97,24 @@ class Diagnostic(ctypes.Structure):
         ("end", ctypes.c_uint64),
         ("message_start", ctypes.c_uint64),
         ("message_end", ctypes.c_uint64),
+        ("note_end", ctypes.c_uint64),
+        ("code", ctypes.c_uint32),
+        ("severity", ctypes.c_uint32),
+    ]
+
+
+class Note(ctypes.Structure):
+    """struct rnix_note."""
+
+    _fields_ = [
+        ("start", ctypes.c_uint64),
+        ("end", ctypes.c_uint64),
+        ("message_start", ctypes.c_uint64),
+        ("message_end", ctypes.c_uint64),
+        ("replaced_start", ctypes.c_uint64),
+        ("replaced_end", ctypes.c_uint64),
+        ("text_start", ctypes.c_uint64),
+        ("text_end", ctypes.c_uint64),
     ]
 
 
@@ -177,7 +196,14 @@ _ARGUMENTS = {
     "rnix_error_texts": _text(*_array(ctypes.c_char)),
     "rnix_kind_name": [ctypes.c_uint32, *_array(ctypes.c_char)],
     "rnix_kind_of_name": _text(),
-    "rnix_diagnostics": _text(*_array(Diagnostic), *_array(ctypes.c_char), ctypes.POINTER(ctypes.c_uint64)),
+    "rnix_diagnostics": _text(
+        *_array(Diagnostic),
+        *_array(Note),
+        ctypes.POINTER(ctypes.c_uint64),
+        *_array(ctypes.c_char),
+        ctypes.POINTER(ctypes.c_uint64),
+    ),
+    "rnix_code_name": [ctypes.c_uint32, *_array(ctypes.c_char)],
     "rnix_fix": _text(ctypes.c_size_t, ctypes.POINTER(Fix), *_array(ctypes.c_char)),
     "rnix_format": _text(*_array(ctypes.c_char)),
     "rnix_names_again": _text(
@@ -250,31 +276,40 @@ def listed(kind: Any, call: Callable[[Any, int], Any], guess: int = 0) -> tuple[
     return room, count
 
 
-def listed_twice(first: Any, second: Any, call: Callable[[Any, int, Any, int, Any], Any], guesses: tuple[int, int]) -> tuple[Any, int, Any, int]:
-    """Returns the two lists that a call writes, each as an array and the number of its elements in use.
+def listed_all(kinds: Sequence[Any], call: Callable[..., int], guesses: Sequence[int]) -> list[tuple[Any, int]]:
+    """Returns the lists that a call writes, each as an array and the number of its elements in use.
 
-    The call takes both arrays, each with its capacity, and where to write the length of the second list. `guesses` are the initial capacities; if
+    The call takes each array with its capacity and, but for the first, where to write the length of the list. `guesses` are the initial capacities; if
     one is too small, the call is repeated with enough.
     """
-    other_len = ctypes.c_uint64(0)
+    lengths = [ctypes.c_uint64(0) for _ in kinds[1:]]
     while True:
-        room, other = room_for(first, guesses[0]), room_for(second, guesses[1])
-        count = count_of(call(room, guesses[0], other, guesses[1], ctypes.byref(other_len)))
-        if count <= guesses[0] and other_len.value <= guesses[1]:
-            return room, count, other, other_len.value
-        guesses = count, other_len.value
+        rooms = [room_for(kind, guess) for kind, guess in zip(kinds, guesses)]
+        others = zip(rooms[1:], guesses[1:], map(ctypes.byref, lengths))
+        count = count_of(call(rooms[0], guesses[0], *itertools.chain.from_iterable(others)))
+        counts = [count, *(length.value for length in lengths)]
+        if all(count <= guess for count, guess in zip(counts, guesses)):
+            return list(zip(rooms, counts))
+        guesses = counts
 
 
-def _kind_names() -> tuple[str, ...]:
-    """Returns the names of the kinds, in the order of their numbers."""
+def listed_twice(first: Any, second: Any, call: Callable[..., int], guesses: tuple[int, int]) -> tuple[Any, int, Any, int]:
+    """Returns the two lists that a call writes, as `listed_all` does."""
+    one, other = listed_all((first, second), call, guesses)
+    return *one, *other
+
+
+def _names(function: Callable[[int, Any, int], int]) -> tuple[str, ...]:
+    """Returns the names that a function writes, in the order of their numbers."""
     names: list[str] = []
     room = ctypes.create_string_buffer(64)
-    while (count := LIBRARY.rnix_kind_name(len(names), room, len(room))) != NONE_SUCH:
+    while (count := function(len(names), room, len(room))) != NONE_SUCH:
         names.append(room.raw[: count_of(count)].decode("ascii"))
     return tuple(names)
 
 
-KINDS = _kind_names()
+KINDS = _names(LIBRARY.rnix_kind_name)
+CODES = _names(LIBRARY.rnix_code_name)
 
 
 def source_of(text: str | bytes | bytearray | memoryview) -> bytes:

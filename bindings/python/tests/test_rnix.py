@@ -15,7 +15,7 @@ from cases import stored
 
 import rnix
 from rnix import __main__ as printer
-from rnix import ast, errors, library
+from rnix import ast, errors, library, messages
 
 BINDINGS = pathlib.Path(__file__).resolve().parents[2]
 
@@ -213,13 +213,45 @@ class Batches(unittest.TestCase):
             self.assertEqual([tree.position(offset) for offset in offsets], [(one.line + 1, one.column + 1) for one in at])
 
     def test_diagnostics_say_what_is_wrong(self):
-        (found, *_) = rnix.diagnostics(rnix.parse('# ä\n{ a = 1 }'))
+        (found,) = rnix.diagnostics(rnix.parse('# ä\n{ a = 1 }'))
         self.assertEqual(found.message, 'expected ";" after the value of "a", found "}"')
-        self.assertEqual(found.range, (13, 14))
-        self.assertEqual(rnix.diagnostics(rnix.parse("a")), [])
+        self.assertEqual((found.range, found.code, found.severity), ((13, 14), "syntax-error", "error"))
+        self.assertEqual(found.notes, (rnix.Note((12, 12), '";" is missing here', rnix.Fix((12, 12), ";")),))
+        (found,) = rnix.diagnostics(rnix.parse("[ 1, 2 ]"))
+        self.assertEqual(found.notes, (rnix.Note(None, "list items are separated by white space alone", rnix.Fix((3, 4), "")),))
+        self.assertEqual(rnix.diagnostics(rnix.parse("1")), [])
         for text, _ in list(stored("trees"))[::41]:
             tree = rnix.parse(text)
-            self.assertEqual(bool(rnix.diagnostics(tree)), bool(tree.errors))
+            codes = {found.code for found in rnix.diagnostics(tree)}
+            self.assertEqual(bool(codes & {"syntax-error", "nested-too-deep"}), bool(tree.errors))
+
+    def test_an_attribute_that_is_defined_again_has_the_place_of_the_first(self):
+        (found,) = rnix.diagnostics(rnix.parse("{ a = 1; a = 2; }"))
+        self.assertEqual((found.range, found.code, found.severity), ((9, 10), "repeated-attribute", "error"))
+        self.assertEqual(found.message, "this attribute is already defined")
+        self.assertEqual(found.notes, (rnix.Note((2, 3), "first defined here", None),))
+
+    def test_lints_find_warnings(self):
+        text = b"{ version = 1.2.3; timeZone = Europe/Berlin; a = (1); }"
+        found = rnix.diagnostics(rnix.parse(text))
+        shown = [(one.code, text[slice(*one.range)]) for one in found]
+        self.assertEqual(shown, [("called-data", b"1.2.3"), ("bare-path", b"Europe/Berlin"), ("needless-parentheses", b"(1)")])
+        self.assertEqual({one.severity for one in found}, {"warning"})
+        (note,) = found[2].notes
+        self.assertEqual(note.replacement, rnix.Fix((49, 52), "1"))
+
+    def test_notes_belong_to_their_diagnostics(self):
+        found = rnix.diagnostics(rnix.parse("{ a = 1; b = 1; a = 2; c = (1); b = 3; }"))
+        self.assertEqual([[note.range for note in one.notes] for one in found], [[(2, 3)], [None], [(9, 10)]])
+
+    def test_a_name_that_nothing_uses_is_a_warning(self):
+        (found,) = rnix.diagnostics(rnix.parse("let a = 1; unused = a; in a"))
+        self.assertEqual((found.range, found.code, found.severity), ((11, 17), "unused-name", "warning"))
+        self.assertEqual((found.message, found.notes), ("nothing uses this name", ()))
+
+    def test_a_text_may_have_many_diagnostics(self):
+        found = rnix.diagnostics(rnix.parse("[ " + 3000 * '("") ' + "]"))
+        self.assertEqual([one.range for one in found], [(5 * number + 2, 5 * number + 6) for number in range(3000)])
 
     def test_fixes_leave_fewer_errors(self):
         def fixed(text):
@@ -390,6 +422,12 @@ class Header(unittest.TestCase):
             self.assertEqual(library.LIBRARY.rnix_kind_of_name(name.encode(), len(name)), number)
         self.assertEqual(library.LIBRARY.rnix_kind_of_name(b"TOKEN", 5), library.NONE_SUCH)
 
+    def test_codes_have_the_names_of_the_crate(self):
+        rules = (BINDINGS.parent / "crates" / "nix_diagnostics" / "src" / "rules.rt").read_text()
+        order = re.findall(r"Code::(\w+),", re.search(r"pub const CODES.*?];", rules, re.S).group())
+        names = [re.sub(r"(?<!^)([A-Z])", r"-\1", name).lower() for name in order]
+        self.assertEqual(list(library.CODES), names)
+
     def test_variants_and_refusals_have_their_numbers(self):
         named = [(name.replace("_", "").lower(), number) for name, number in self.numbers("rnix_error_variant")]
         self.assertEqual(named, [(name.lower(), number) for number, name in enumerate(errors.VARIANTS)])
@@ -397,6 +435,7 @@ class Header(unittest.TestCase):
         refusals = [(name, getattr(library, name)) for name in names]
         self.assertEqual(self.numbers("rnix_refusal"), refusals)
         self.assertIn(("CHARS", library.CHARS), self.numbers("rnix_unit"))
+        self.assertEqual([(number, name.lower()) for name, number in self.numbers("rnix_severity")], list(messages.SEVERITIES.items()))
         self.assertIn(f"#define RNIX_NOT_WANTED {library.NOT_WANTED}", self.source)
 
     def test_structs_have_their_sizes(self):
@@ -406,6 +445,7 @@ class Header(unittest.TestCase):
             "rnix_token": library.Token,
             "rnix_element": library.Element,
             "rnix_range": library.Range,
+            "rnix_note": library.Note,
             "rnix_link": library.Link,
             "rnix_error": library.Fault,
             "rnix_part": library.Part,

@@ -1,25 +1,61 @@
-//! The errors of a text in words for people, and fixes for them.
+//! What is wrong with a text, in words for people: its syntax errors or, if it has none, what the lints find. Also fixes.
 //!
 //! ```
-//! let parse = rnix::Root::parse("{ a = 1 }");
-//! let found = rnix::diagnostics::diagnostics(&parse);
+//! use rnix::diagnostics::{diagnostics, fix, Severity};
+//! use rnix::{Root, TextRange};
+//!
+//! let parse = Root::parse("{ a = 1 }");
+//! let found = diagnostics(&parse);
 //! assert_eq!(found[0].message, "expected \";\" after the value of \"a\", found \"}\"");
-//! let fix = rnix::diagnostics::fix(&parse, 0).unwrap();
+//! assert_eq!((found[0].code, found[0].severity), ("syntax-error", Severity::Error));
+//! let fix = fix(&parse, 0).unwrap();
 //! assert_eq!((usize::from(fix.range.start()), fix.text.as_str()), (7, ";"));
+//!
+//! let found = diagnostics(&Root::parse("{ a = 1; a = 2; }"));
+//! assert_eq!(found[0].code, "repeated-attribute");
+//! assert_eq!(found[0].notes[0].message, "first defined here");
+//! assert_eq!(found[0].notes[0].range, Some(TextRange::new(2.into(), 3.into())));
 //! ```
 
-use crate::error::Refused;
+use crate::ffi::described::{self, code_name, described, Described};
 use crate::scopes::{self, Resolution};
 use crate::{ffi, Parse, Root, TextRange, TextSize};
 use std::cell::Cell;
+use std::sync::OnceLock;
 
-/// An error of a text.
+/// How serious a diagnostic is.
+#[derive(Clone, Copy, Debug, PartialEq, Eq, PartialOrd, Ord, Hash)]
+pub enum Severity {
+    /// Nix refuses the text, or this library does not parse all of it.
+    Error,
+    /// Nix accepts the text, but it is probably a mistake, or could be said in fewer words.
+    Warning,
+}
+
+/// What is wrong with a range of a text.
 #[derive(Clone, Debug, PartialEq, Eq, Hash)]
 pub struct Diagnostic {
     /// The range to mark; empty if something is missing at the end.
     pub range: TextRange,
     /// The message, such as `expected ";" after the value of "a", found "}"`.
     pub message: String,
+    /// The name of what it reports, such as `syntax-error`, `repeated-attribute` or `unused-name`. It is the same in every version.
+    pub code: &'static str,
+    /// How serious it is.
+    pub severity: Severity,
+    /// Notes that may help: what is not closed, where an attribute is defined first, what may be meant.
+    pub notes: Vec<Note>,
+}
+
+/// A note on a diagnostic.
+#[derive(Clone, Debug, PartialEq, Eq, Hash)]
+pub struct Note {
+    /// The range that it is about, if that is not the range of the diagnostic.
+    pub range: Option<TextRange>,
+    /// The message.
+    pub message: String,
+    /// What to write instead, if it proposes something. On a syntax error this is a guess, and [`fix`] says which of the guesses helps.
+    pub replacement: Option<Fix>,
 }
 
 /// A range of a text, and what to write instead.
@@ -31,21 +67,11 @@ pub struct Fix {
     pub text: String,
 }
 
-// How long the messages of so many diagnostics are expected to be.
-fn message_guess(count: usize) -> usize {
-    128 * (count + 1)
-}
-
-// Encodes the diagnostics of a text, and joins their messages.
-fn read(text: &str, count: usize) -> Result<(Vec<ffi::Diagnostic>, Vec<u8>), Refused> {
-    // SAFETY: the call fills its arrays as `listed_twice` requires.
-    unsafe {
-        ffi::listed_twice(
-            (count, message_guess(count)),
-            |room, len, buffer, buffer_room, buffer_len| {
-                ffi::rnix_diagnostics(text.as_ptr(), text.len(), room, len, buffer, buffer_room, buffer_len)
-            },
-        )
+// How many diagnostics are expected in a text that has so many errors: at most one for each, or, without errors, the few of the lints.
+fn guess(text: &str, error_count: usize) -> usize {
+    match error_count {
+        0 => text.len() / 64 + 16,
+        count => count,
     }
 }
 
@@ -53,53 +79,101 @@ fn range(start: u64, end: u64) -> TextRange {
     TextRange::new(TextSize::new(start as u32), TextSize::new(end as u32))
 }
 
-// What encoded diagnostics are, with their joined messages.
-fn decoded(found: &[ffi::Diagnostic], messages: &[u8]) -> Vec<Diagnostic> {
-    let message = |one: &ffi::Diagnostic| {
-        let message = &messages[one.message_start as usize..one.message_end as usize];
-        String::from_utf8_lossy(message).into_owned()
-    };
-    let diagnostic = |one: &ffi::Diagnostic| Diagnostic {
-        range: range(one.start, one.end),
-        message: message(one),
-    };
-    found.iter().map(diagnostic).collect()
+// The names of all codes, by number.
+fn code_names() -> &'static [String] {
+    static NAMES: OnceLock<Vec<String>> = OnceLock::new();
+    NAMES.get_or_init(|| (0..).map_while(code_name).collect())
 }
 
-/// Returns the diagnostics of a text, in the order of its errors. One may stand for several errors in a row.
+impl Severity {
+    fn of(number: u32) -> Severity {
+        match number {
+            1 => Severity::Error,
+            _ => Severity::Warning,
+        }
+    }
+
+    /// Returns `error` or `warning`.
+    pub fn name(self) -> &'static str {
+        match self {
+            Severity::Error => "error",
+            Severity::Warning => "warning",
+        }
+    }
+}
+
+impl Described {
+    // A range of the joined texts.
+    fn text(&self, start: u64, end: u64) -> String {
+        String::from_utf8_lossy(&self.texts[start as usize..end as usize]).into_owned()
+    }
+
+    fn note(&self, note: &described::Note) -> Note {
+        let is_about_another = note.start != ffi::NO_NUMBER;
+        let proposes = note.replaced_start != ffi::NO_NUMBER;
+        Note {
+            range: is_about_another.then(|| range(note.start, note.end)),
+            message: self.text(note.message_start, note.message_end),
+            replacement: proposes.then(|| Fix {
+                range: range(note.replaced_start, note.replaced_end),
+                text: self.text(note.text_start, note.text_end),
+            }),
+        }
+    }
+
+    // A diagnostic, whose notes begin with the one of a number.
+    fn diagnostic(&self, one: &described::Diagnostic, first_note: usize) -> Diagnostic {
+        let notes = &self.notes[first_note..one.note_end as usize];
+        Diagnostic {
+            range: range(one.start, one.end),
+            message: self.text(one.message_start, one.message_end),
+            code: &code_names()[one.code as usize],
+            severity: Severity::of(one.severity),
+            notes: notes.iter().map(|note| self.note(note)).collect(),
+        }
+    }
+
+    fn decoded(&self) -> Vec<Diagnostic> {
+        let ends = self.diagnostics.iter().map(|one| one.note_end as usize);
+        let first_notes = std::iter::once(0).chain(ends);
+        let numbered = self.diagnostics.iter().zip(first_notes);
+        numbered.map(|(one, first)| self.diagnostic(one, first)).collect()
+    }
+}
+
+/// Returns the diagnostics of a text: its syntax errors, in their order, or, if it has none, what the lints find, as
+/// `docs/lints.md` lists it, and the unused names. One may stand for several errors in a row. The library parses the text again.
 ///
 /// # Panics
 /// If memory runs out.
 pub fn diagnostics(parse: &Parse<Root>) -> Vec<Diagnostic> {
-    if parse.errors().is_empty() {
-        return Vec::new();
-    }
     let root = parse.syntax();
-    let (found, messages) = read(root.tree.text(0), parse.errors().len()).unwrap_or_else(|refused| panic!("{refused}"));
-    decoded(&found, &messages)
+    let text = root.tree.text(0);
+    let found = described(text, guess(text, parse.errors().len()));
+    found.unwrap_or_else(|refused| panic!("{refused}")).decoded()
 }
 
-/// Returns what [`resolve`](crate::scopes::resolve) and [`diagnostics`] return. If the text has errors, the library parses it for both once.
+/// Returns what [`resolve`](crate::scopes::resolve) and [`diagnostics`] return. If the text has errors, the library parses it for both once, and otherwise
+/// not at all.
 ///
 /// # Panics
 /// If memory runs out.
 pub fn names_and_diagnostics(parse: &Parse<Root>) -> (Resolution, Vec<Diagnostic>) {
-    if parse.errors().is_empty() {
-        return (scopes::resolve(parse), Vec::new());
-    }
-    let root = parse.syntax();
-    let (text, count) = (root.tree.text(0), parse.errors().len());
+    let (root, error_count) = (parse.syntax(), parse.errors().len());
+    let text = root.tree.text(0);
     let (bindings, references) = scopes::guesses(text);
-    let guesses = [bindings, references, count, message_guess(count)];
-    let found = ffi::analysed(text, guesses).unwrap_or_else(|refused| panic!("{refused}"));
+    let guesses = [bindings, references, guess(text, error_count)];
+    let found = root.tree.analysed(error_count, guesses);
+    let found = found.unwrap_or_else(|refused| panic!("{refused}"));
     (
         scopes::resolution(&root, &found.bindings, &found.references),
-        decoded(&found.diagnostics, &found.messages),
+        found.described.decoded(),
     )
 }
 
-/// Returns a fix for the diagnostic of this index in [`diagnostics`], if one is known. With it, the text has fewer errors. The library parses the text,
-/// and parses it again with each guess at what was meant, of which there are at most three.
+/// Returns a fix for the syntax error of this index in [`diagnostics`], if one is known. With it, the text has fewer errors. The library parses the text,
+/// and parses it again with each guess at what was meant, of which there are at most three. A text without syntax errors has no such fix: what the lints
+/// propose is in the notes.
 ///
 /// # Panics
 /// If memory runs out.

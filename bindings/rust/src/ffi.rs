@@ -1,10 +1,14 @@
-//! The functions that `bindings/rnix.h` declares, and a wrapper for those that fill an array.
+//! The functions that `bindings/rnix.h` declares, and wrappers for those that fill arrays.
+
+mod arrays;
+pub mod described;
 
 use crate::error::Refused;
 use crate::SyntaxKind;
+pub use arrays::{listed, listed_twice};
 
 /// The version of the interface that this file declares.
-pub const VERSION: u32 = 6;
+pub const VERSION: u32 = 7;
 
 /// Negative results: why a call was refused.
 pub const NOT_UTF8: i64 = -1;
@@ -72,16 +76,6 @@ pub struct StringPart {
     pub start: u64,
     pub end: u64,
     pub is_interpolation: u32,
-}
-
-/// A diagnostic: 32 bytes.
-#[repr(C)]
-#[derive(Clone, Copy, Debug)]
-pub struct Diagnostic {
-    pub start: u64,
-    pub end: u64,
-    pub message_start: u64,
-    pub message_end: u64,
 }
 
 /// A fix: 24 bytes.
@@ -161,15 +155,6 @@ extern "C" {
         buffer_room: usize,
         buffer_len: *mut u64,
     ) -> i64;
-    pub fn rnix_diagnostics(
-        text: *const u8,
-        len: usize,
-        diagnostics: *mut Diagnostic,
-        room: usize,
-        buffer: *mut u8,
-        buffer_room: usize,
-        buffer_len: *mut u64,
-    ) -> i64;
     pub fn rnix_fix(
         text: *const u8,
         len: usize,
@@ -193,21 +178,6 @@ extern "C" {
         reference_room: usize,
         reference_count: *mut u64,
     ) -> i64;
-    fn rnix_analysis(
-        text: *const u8,
-        len: usize,
-        bindings: *mut Binding,
-        binding_room: usize,
-        references: *mut Reference,
-        reference_room: usize,
-        reference_count: *mut u64,
-        diagnostics: *mut Diagnostic,
-        room: usize,
-        diagnostic_count: *mut u64,
-        buffer: *mut u8,
-        buffer_room: usize,
-        buffer_len: *mut u64,
-    ) -> i64;
 }
 
 /// Returns the count that a call returned, or why it was refused.
@@ -220,96 +190,11 @@ pub fn count_of(result: i64) -> Result<usize, Refused> {
     }
 }
 
-// The library must be of this version, since other ones may have other structs.
+// Asserts that the library is of this version, since other ones may have other structs.
 fn check_version() {
     // SAFETY: the function takes no pointers.
     let version = unsafe { rnix_version() };
     assert_eq!(version, VERSION, "librnix.a is of another version than this crate");
-}
-
-// An array that a call fills.
-struct Room<T> {
-    list: Vec<T>,
-}
-
-impl<T: Copy> Room<T> {
-    // An array of this capacity. If there is no memory for it, it has none, and the first call only counts. Each call on a text begins with this.
-    fn new(guess: usize) -> Room<T> {
-        check_version();
-        let mut list: Vec<T> = Vec::new();
-        let _ = list.try_reserve_exact(guess);
-        Room { list }
-    }
-
-    fn start(&mut self) -> *mut T {
-        self.list.as_mut_ptr()
-    }
-
-    fn len(&self) -> usize {
-        self.list.capacity()
-    }
-
-    // Whether it has room for so many items. If not, it gets room for them.
-    fn holds(&mut self, count: usize) -> Result<bool, Refused> {
-        let fits = count <= self.len();
-        if !fits {
-            self.list.try_reserve_exact(count).map_err(|_| Refused::NoMemory)?;
-        }
-        Ok(fits)
-    }
-
-    // The first items. The last call must have written so many.
-    unsafe fn filled(mut self, count: usize) -> Vec<T> {
-        // SAFETY: the caller promises it.
-        unsafe { self.list.set_len(count) };
-        self.list
-    }
-}
-
-/// Returns the whole list that a call writes. `guess` is the initial capacity; if it is too small, the call is repeated with enough.
-///
-/// # Safety
-/// The call must return the length of the list, and write as much of it to the start of its array as there is room for.
-pub unsafe fn listed<T: Copy>(guess: usize, mut call: impl FnMut(*mut T, usize) -> i64) -> Result<Vec<T>, Refused> {
-    let mut list = Room::new(guess);
-    loop {
-        let count = count_of(call(list.start(), list.len()))?;
-        if list.holds(count)? {
-            // SAFETY: the call has written the whole list.
-            return Ok(unsafe { list.filled(count) });
-        }
-    }
-}
-
-// A length that a call has written.
-fn length(count: u64) -> Result<usize, Refused> {
-    usize::try_from(count).map_err(|_| Refused::NoMemory)
-}
-
-/// Returns both lists that a call writes, as `listed` does for one. The call also takes where to write the length of the second list.
-///
-/// # Safety
-/// The call must return the length of the first list and write that of the second, and write as much of each as there is room for.
-pub unsafe fn listed_twice<A: Copy, B: Copy>(
-    guesses: (usize, usize),
-    mut call: impl FnMut(*mut A, usize, *mut B, usize, *mut u64) -> i64,
-) -> Result<(Vec<A>, Vec<B>), Refused> {
-    let (mut first, mut second) = (Room::new(guesses.0), Room::new(guesses.1));
-    loop {
-        let mut second_count = 0;
-        let result = call(
-            first.start(),
-            first.len(),
-            second.start(),
-            second.len(),
-            &mut second_count,
-        );
-        let counts = (count_of(result)?, length(second_count)?);
-        if (first.holds(counts.0)?, second.holds(counts.1)?) == (true, true) {
-            // SAFETY: the call has written both lists.
-            return Ok(unsafe { (first.filled(counts.0), second.filled(counts.1)) });
-        }
-    }
 }
 
 /// The elements of a tree, in two lists of one length, and its errors.
@@ -437,60 +322,9 @@ pub unsafe fn names(kept: Kept<'_>, guesses: (usize, usize)) -> Result<(Vec<Bind
     }
 }
 
-/// The names of a text, and its diagnostics with their joined messages.
-pub struct Analysed {
-    pub bindings: Vec<Binding>,
-    pub references: Vec<Reference>,
-    pub diagnostics: Vec<Diagnostic>,
-    pub messages: Vec<u8>,
-}
-
-/// Returns the names and the diagnostics of a text, which is parsed once. The guesses are the initial capacities for the bindings, the references, the
-/// diagnostics and their messages.
-pub fn analysed(text: &str, guesses: [usize; 4]) -> Result<Analysed, Refused> {
-    let (mut bindings, mut references) = (Room::new(guesses[0]), Room::new(guesses[1]));
-    let (mut diagnostics, mut messages) = (Room::new(guesses[2]), Room::new(guesses[3]));
-    loop {
-        let mut counts = [0; 3];
-        let [reference_count, diagnostic_count, buffer_len] = &mut counts;
-        // SAFETY: the text and the arrays have these lengths.
-        let result = unsafe {
-            rnix_analysis(
-                text.as_ptr(),
-                text.len(),
-                bindings.start(),
-                bindings.len(),
-                references.start(),
-                references.len(),
-                reference_count,
-                diagnostics.start(),
-                diagnostics.len(),
-                diagnostic_count,
-                messages.start(),
-                messages.len(),
-                buffer_len,
-            )
-        };
-        let first = count_of(result)?;
-        let [second, third, last] = [length(counts[0])?, length(counts[1])?, length(counts[2])?];
-        let names_fit = (bindings.holds(first)?, references.holds(second)?) == (true, true);
-        let others_fit = (diagnostics.holds(third)?, messages.holds(last)?) == (true, true);
-        if names_fit && others_fit {
-            // SAFETY: the call has written all four lists.
-            return unsafe {
-                Ok(Analysed {
-                    bindings: bindings.filled(first),
-                    references: references.filled(second),
-                    diagnostics: diagnostics.filled(third),
-                    messages: messages.filled(last),
-                })
-            };
-        }
-    }
-}
-
 #[cfg(test)]
 mod tests {
+    use super::described::{Diagnostic, Note};
     use super::*;
     use crate::{ParseError, Root};
     use std::mem::{align_of, size_of};
@@ -507,7 +341,8 @@ mod tests {
         assert_eq!((size_of::<Link>(), align_of::<Link>()), (12, 4));
         assert_eq!((size_of::<Fault>(), align_of::<Fault>()), (40, 8));
         assert_eq!((size_of::<StringPart>(), align_of::<StringPart>()), (32, 8));
-        assert_eq!((size_of::<Diagnostic>(), align_of::<Diagnostic>()), (32, 8));
+        assert_eq!((size_of::<Diagnostic>(), align_of::<Diagnostic>()), (48, 8));
+        assert_eq!((size_of::<Note>(), align_of::<Note>()), (64, 8));
         assert_eq!((size_of::<Fix>(), align_of::<Fix>()), (24, 8));
         assert_eq!((size_of::<Binding>(), align_of::<Binding>()), (48, 8));
         assert_eq!((size_of::<Reference>(), align_of::<Reference>()), (40, 8));

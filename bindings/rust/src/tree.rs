@@ -1,6 +1,7 @@
 //! A text and the elements of its tree, which nodes and tokens share.
 
 use crate::error::{errors_of, ParseError, Refused};
+use crate::ffi::described::{analysed, Analysed};
 use crate::ffi::{self, Kept, Link, Parsed, Range, NO_PARENT};
 use crate::strings::Strings;
 use crate::{SyntaxKind, TextRange, TextSize};
@@ -86,6 +87,12 @@ impl Tree {
     ) -> Result<(Vec<ffi::Binding>, Vec<ffi::Reference>), Refused> {
         // SAFETY: `kept` returns what was kept.
         unsafe { ffi::names(self.kept(error_count), guesses) }
+    }
+
+    /// Returns the encoded names and diagnostics of the text of this tree, which has so many errors. The tree must be that of a whole text.
+    pub(crate) fn analysed(&self, error_count: usize, guesses: [usize; 3]) -> Result<Analysed, Refused> {
+        // SAFETY: `kept` returns what was kept.
+        unsafe { analysed(self.kept(error_count), guesses) }
     }
 
     /// Parses the text of this tree, which has so many errors, after an edit that replaces the bytes in a range. The tree must be that of a whole text.

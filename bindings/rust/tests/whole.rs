@@ -1,7 +1,7 @@
 //! Calls that return what a whole text has: its diagnostics and their fixes, its names, and the parts of its strings.
 
 use rnix::ast::{InterpolPart, Str};
-use rnix::diagnostics::{diagnostics, fix, names_and_diagnostics};
+use rnix::diagnostics::{diagnostics, fix, names_and_diagnostics, Diagnostic, Fix, Severity};
 use rnix::scopes::resolve;
 use rnix::syntax::ast::AstNode;
 use rnix::{Edits, Root, SyntaxKind, TextRange};
@@ -10,8 +10,82 @@ use rnix::{Edits, Root, SyntaxKind, TextRange};
 fn diagnostics_say_what_is_wrong() {
     let found = diagnostics(&Root::parse("# ä\n{ a = 1 }"));
     assert_eq!(found[0].message, "expected \";\" after the value of \"a\", found \"}\"");
-    assert_eq!(found[0].range, TextRange::new(13.into(), 14.into()));
-    assert!(diagnostics(&Root::parse("a")).is_empty());
+    assert_eq!(found[0].range, range(13, 14));
+    assert_eq!((found[0].code, found[0].severity), ("syntax-error", Severity::Error));
+    assert!(diagnostics(&Root::parse("1")).is_empty());
+}
+
+fn range(start: u32, end: u32) -> TextRange {
+    TextRange::new(start.into(), end.into())
+}
+
+// The only diagnostic of a text.
+fn only(text: &str) -> Diagnostic {
+    let [found] = <[Diagnostic; 1]>::try_from(diagnostics(&Root::parse(text))).unwrap();
+    found
+}
+
+#[test]
+fn notes_say_where_and_what_to_write() {
+    let found = only("# ä\n{ a = 1 }");
+    assert_eq!(found.notes[0].message, "\";\" is missing here");
+    assert_eq!(found.notes[0].range, Some(range(12, 12)));
+    let semicolon = Fix {
+        range: range(12, 12),
+        text: ";".to_owned(),
+    };
+    assert_eq!(found.notes[0].replacement, Some(semicolon));
+    let found = only("[ 1, 2 ]");
+    assert_eq!(found.notes[0].message, "list items are separated by white space alone");
+    assert_eq!(found.notes[0].range, None);
+    let found = only("{ a = ; }");
+    assert!(found.notes.is_empty());
+}
+
+#[test]
+fn notes_belong_to_their_diagnostics() {
+    let found = diagnostics(&Root::parse("{ a = 1; b = 1; a = 2; c = (1); b = 3; }"));
+    let notes: Vec<_> = found.iter().map(|one| one.notes[0].range).collect();
+    assert_eq!(notes, [Some(range(2, 3)), None, Some(range(9, 10))]);
+    assert!(found.iter().all(|one| one.notes.len() == 1));
+}
+
+#[test]
+fn an_attribute_that_is_defined_again_has_the_place_of_the_first() {
+    let found = only("{ a = 1; a = 2; }");
+    assert_eq!((found.code, found.severity), ("repeated-attribute", Severity::Error));
+    assert_eq!(found.range, range(9, 10));
+    assert_eq!(found.notes[0].message, "first defined here");
+    assert_eq!(found.notes[0].range, Some(range(2, 3)));
+    assert_eq!(found.notes[0].replacement, None);
+}
+
+#[test]
+fn lints_find_warnings() {
+    let text = "{ version = 1.2.3; timeZone = Europe/Berlin; a = (1); }";
+    let found = diagnostics(&Root::parse(text));
+    let shown: Vec<_> = found.iter().map(|one| (one.code, &text[one.range])).collect();
+    let wanted = [
+        ("called-data", "1.2.3"),
+        ("bare-path", "Europe/Berlin"),
+        ("needless-parentheses", "(1)"),
+    ];
+    assert_eq!(shown, wanted);
+    assert!(found.iter().all(|one| one.severity == Severity::Warning));
+    let fix = found[2].notes[0].replacement.as_ref().unwrap();
+    let mut edits = Edits::new(text);
+    edits.replace(fix.range, &fix.text).unwrap();
+    assert_eq!(edits.apply(), text.replace("(1)", "1"));
+}
+
+#[test]
+fn a_name_that_nothing_uses_is_a_warning() {
+    let found = only("let a = 1; unused = a; in a");
+    assert_eq!((found.code, found.severity), ("unused-name", Severity::Warning));
+    assert_eq!(
+        (found.range, found.message.as_str()),
+        (range(11, 17), "nothing uses this name")
+    );
 }
 
 // A text with the fix of its first diagnostic.
@@ -65,7 +139,17 @@ fn fixes_leave_fewer_errors() {
 #[test]
 fn one_call_returns_names_and_diagnostics() {
     let many = "[ (a: b: a c) ]) ".repeat(200);
-    for text in ["", "let a = 1; in a", "let a = 1; b = in { c ]: a", many.as_str()] {
+    let lints = format!("[ {}]", "(a) ".repeat(1000));
+    let names = format!("let {}in 1", "\"a\" = b: c; ".repeat(1000));
+    for text in [
+        "",
+        "let a = 1; in a",
+        "let a = 1; b = in { c ]: a",
+        "{ a = 1; a = (2); b = c: 1; }",
+        many.as_str(),
+        lints.as_str(),
+        names.as_str(),
+    ] {
         let parse = Root::parse(text);
         let (names, found) = names_and_diagnostics(&parse);
         assert_eq!(found, diagnostics(&parse));

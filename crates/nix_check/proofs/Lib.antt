@@ -1,5 +1,4 @@
 pub mod ListedPieces
-pub mod ReportedLemmas
 pub mod PrintedDiagnostics
 pub mod NotesAsText
 pub mod CheckedFiles

@@ -1,7 +1,7 @@
 -- The output for the diagnostics of a text.
 use Rattle.std.proofs.Common.{◌≡◌, ◌∙◌, IfSome, ℕ, ◌+◌, ◌-◌, ◌==◌, ◌<◌, nat_lt, min, Bool, false, List, [], ◌∷◌, ◌++◌, length, map, take, get_or, Option, Some, None, sym, ap, subst, arith, refl, inl, inr}
 use Rattle.std.specs.Prelude.{slice_get, string_bytes}
-use Rattle.std.proofs.{KnownBytes.{Appends-nil, Appends-trans}, lemmas.{List.take_all, Bool.cases_lt, Option.{slice_get-get_or, get_or_from_slice_get}}}
+use Rattle.std.proofs.{KnownBytes.{Appends-nil, Appends-trans}, lemmas.{List.take_all, Bool.cases_lt, Option.{get_or_from_slice_get}}}
 use Rattle.std.specs.Io.KnownBytes.{Appends}
 use Rattle.rnix_kinds.specs.Lexical.Tokens.{tokens_of}
 use Rattle.rnix_green.specs.Tree.{Tree}
@@ -11,7 +11,8 @@ use Rattle.nix_check.specs.declared.style.Style.{Style}
 use Rattle.nix_check.specs.declared.style.Format.{Format}
 use Rattle.nix_check.specs.declared.style.Format.TheVariants as form
 use Rattle.nix_check.specs.declared.tally.Counts.{Counts}
-use Rattle.nix_check.specs.Items.{Item, AreItems, IsWordedAt}
+use Rattle.nix_lints.specs.Items.{Item, AreItems, IsWordedAt}
+use Rattle.nix_lints.proofs.ReportedLemmas.{some_item}
 use Rattle.nix_check.specs.{AsText.IsText, AsJson.json_line, AsSarif.{sarif_result, separator}}
 use Rattle.nix_check.specs.Listed.{Prints, none_listed}
 use Rattle.nix_check.specs.PrintedFindings.{IsPrintedAs, IsPrinted, IsPrintedItem, AreFormed, ArePrinted, IsChecked, more_line, counts_of}
@@ -42,12 +43,6 @@ first_items items count limit is = elim (cases_lt limit (length items)) [
   | inl less ↦ (let same : count ≡ limit = omega (arith, is, less) in ap (λ n. take n items) same)
   | inr more ↦ take_all count items (omega (arith, is, more)) ∙ sym (take_all limit items more)
 ]
-
--- there is an item with each number below their count
-some_item : (items : List Item) (i : ℕ) → i < length items → slice_get items i ≡ None → ⊥
-some_item [] i within none = absurd (omega (arith, within))
-some_item (m ∷ items) i within none =
-    subst (λ (o : Option Item). IfSome o (λ item. ⊥)) (sym none ∙ slice_get-get_or (m ∷ items) i m within) tt
 
 -- printing one more item in words
 pub item_printed : (style : Style) (name text : List ℕ) (earlier : ℕ) (items : List Item) (i : ℕ) (found : Option Diagnostic) (is_first : Bool)

@@ -1,4 +1,3 @@
-pub mod Items
 pub mod Listed
 pub mod AsText
 pub mod AsJson

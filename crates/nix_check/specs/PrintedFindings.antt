@@ -10,7 +10,8 @@ use Rattle.nix_check.specs.declared.style.Style.{Style}
 use Rattle.nix_check.specs.declared.style.Format.{Format}
 use Rattle.nix_check.specs.declared.style.Format.TheVariants as form
 use Rattle.nix_check.specs.declared.tally.Counts.{Counts}
-use Rattle.nix_check.specs.{Items.{Item, is_error, AreItems, IsWorded}, Listed.AreListed, AsText.IsText, AsJson.json_line, AsSarif.{sarif_result, separator}}
+use Rattle.nix_lints.specs.Items.{Item, is_error, AreItems, IsWorded}
+use Rattle.nix_check.specs.{Listed.AreListed, AsText.IsText, AsJson.json_line, AsSarif.{sarif_result, separator}}
 
 -- a diagnostic of a text in a form; a result of SARIF is separated from what precedes it
 abbrev pub IsPrintedAs : Format → Bool → List ℕ → List ℕ → Bool → Diagnostic → List ℕ → Type 0

@@ -4,18 +4,18 @@ ghost use Rattle.std.specs.Prelude.{◌≡◌, ◌+◌, ◌==◌, List, Some, ta
 ghost use Rattle.nix_diagnostics.specs.declared.diagnostic.Diagnostic.{Diagnostic};
 ghost use Rattle.std.specs.Io.KnownBytes.{Appends};
 ghost use Rattle.nix_cli.specs.MessageLocations.{IsIndexed};
-ghost use Rattle.nix_check.specs.Items.{Item, IsReported};
+ghost use Rattle.nix_lints.specs.Items.{Item, IsReported};
 ghost use Rattle.nix_check.specs.Listed.{Prints};
 ghost use Rattle.nix_check.specs.PrintedFindings.{more_errors, more_of_both, more_line, counts_of, IsPrinted, AreFormed, ArePrinted, IsChecked};
 
 use crate::json::write_json;
-use crate::reported::Reported;
 use crate::sarif::write_separated;
 use crate::style::{Format, Style};
 use crate::tally::Counts;
 use crate::text::write_text;
 use nix_cli::Source;
 use nix_diagnostics::Diagnostic;
+use nix_lints::Reported;
 use rnix::Root;
 use rnix_text::{ColumnUnit, LineIndex};
 use std::alloc::Global;

@@ -8,12 +8,16 @@ use nix_cli::{
     Arguments, Command, FAILED, Start, end, find_files, find_inputs, is_colored, read_arguments,
     refuse,
 };
+use nix_diagnostics::Code;
 use std::io;
 use std::io::{BufWriter, Write};
 use std::process::ExitCode;
 
 // The greatest number of diagnostics of a file that are printed without `--all`.
 const LIMIT: usize = 20;
+
+// The lint that is left out without `--unused`, since `rnix dead` reports the same.
+const UNUSED: Code = Code::UnusedName;
 
 /// The command and its options.
 pub const COMMAND: Command = Command {
@@ -30,6 +34,7 @@ few places: the page nix.md lists them, and the page lints.md the lints.
     --json     print each error and warning as a line of JSON
     --sarif    print all errors and warnings as one SARIF 2.1.0 file
     --strict   end with 1 if there are warnings, too
+    --unused   report the names that nothing uses, too, as warnings
     --disable CODE  leave out a lint, such as needless-parentheses; may be given several times
     --fix      write what the notes on the errors propose, wherever a file then has fewer errors: to FILE.new, which is then renamed, or the text
                of standard input to standard output. The number of fixes and the errors that are left are printed on standard error
@@ -39,7 +44,9 @@ few places: the page nix.md lists them, and the page lints.md the lints.
     statuses: "
 Ends with 0 if there are no errors, or none are left, 1 if there are some, or warnings with --strict, 2 if something could not be read or written.
 ",
-    flags: &["--all", "--json", "--sarif", "--strict", "--fix"],
+    flags: &[
+        "--all", "--json", "--sarif", "--strict", "--unused", "--fix",
+    ],
     has_colors: true,
     has_excludes: true,
     min_words: 0,
@@ -123,21 +130,26 @@ fn run_with(rt: &HostRuntime, arguments: &Arguments, disabled: &[String]) -> io:
 }
 
 // Reads the command line, of which `--disable` was taken already, and does what it says.
-fn run_taken(rt: &HostRuntime, taken: &Taken) -> io::Result<u8> {
+fn run_taken(rt: &HostRuntime, taken: &mut Taken) -> io::Result<u8> {
     if let Some(reason) = taken.wrong() {
         refuse(rt, &COMMAND, reason)?;
         return Ok(FAILED);
     }
     match read_arguments(rt, &COMMAND, &taken.rest) {
-        Start::Run(arguments) => run_with(rt, &arguments, &taken.disabled),
+        Start::Run(arguments) => {
+            if !arguments.has("--unused") {
+                taken.leave_out(rt.alloc(), UNUSED)?;
+            }
+            run_with(rt, &arguments, &taken.disabled)
+        }
         Start::End(outcome) => outcome,
     }
 }
 
 // Takes `--disable` from the command line, and does what the rest says.
 fn run_all(rt: &HostRuntime, arguments: &[String]) -> io::Result<u8> {
-    let taken = Taken::of(rt.alloc(), arguments)?;
-    run_taken(rt, &taken)
+    let mut taken = Taken::of(rt.alloc(), arguments)?;
+    run_taken(rt, &mut taken)
 }
 
 /// Reports the syntax errors of Nix files and, in files without any, what the lints find. Takes the arguments that follow the name of the command, and

@@ -70,6 +70,12 @@ impl Taken {
         Ok(())
     }
 
+    /// Leaves out a lint, as the option does.
+    pub fn leave_out(&mut self, alloc: Global, code: Code) -> Result<(), AllocError> {
+        self.disabled.push(String::from_str(alloc, code.name())?)?;
+        Ok(())
+    }
+
     /// Returns the reason why the option is wrong, if it is.
     pub fn wrong(&self) -> Option<&'static str> {
         if self.is_awaited {

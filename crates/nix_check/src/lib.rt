@@ -8,7 +8,6 @@ mod disabled;
 mod fixing;
 mod json;
 mod report;
-mod reported;
 mod sarif;
 mod style;
 mod tally;

@@ -1,2 +1,1 @@
-pub mod DeadLemmas
 pub mod ReportedNames

@@ -6,44 +6,45 @@ use Rattle.rnix_kinds.specs.Lexical.Tokens.{tokens_of}
 use Rattle.rnix_green.specs.Tree.{Tree, Located}
 use Rattle.rnix_grammar.specs.{declared.error.ParseError.ParseError, Fault.{Fault, fault_of}, Parsed.IsParsed}
 use Rattle.nix_cli.specs.{KnownTexts.{KnownTexts, Agrees}, MessageLocations.{display_name}}
-use Rattle.nix_dead.specs.{Dead.{Listed, listed_name, dead_in}, declared.dead.Name.Name}
+use Rattle.nix_lints.specs.{UnusedNames.{Written, written_name, unused_in}, declared.unused.UnusedName.UnusedName}
+use Rattle.nix_dead.specs.Dead.{start_of}
 use Rattle.nix_dead.specs.Report.{name_output, status_of, AreReported, IsReported, IsFileReported}
 
-status_none : (names : List Listed) → length names ≡ 0 → 0 ≡ status_of names
+status_none : (names : List Written) → length names ≡ 0 → 0 ≡ status_of names
 status_none [] none = refl
 status_none (name ∷ names) none = absurd (omega (arith, none))
 
-status_some : (names : List Listed) → (length names ≡ 0 → ⊥) → 1 ≡ status_of names
+status_some : (names : List Written) → (length names ≡ 0 → ⊥) → 1 ≡ status_of names
 status_some [] some = absurd (some refl)
 status_some (name ∷ names) some = refl
 
 -- there are as many dead names as names that are reported
-same_length : (root : Located) (names : List Name) → IsPermutation (dead_in root) (map listed_name names) → length names ≡ length (dead_in root)
-same_length root names same = sym (length-map names listed_name) ∙ length_permutation (dead_in root) (map listed_name names) same
+same_length : (root : Located) (names : List UnusedName) → IsPermutation (unused_in root) (map written_name names) → length names ≡ length (unused_in root)
+same_length root names same = sym (length-map names written_name) ∙ length_permutation (unused_in root) (map written_name names) same
 
 -- a tree without dead names is reported
-pub none_reported : (is_json : Bool) (file text : List ℕ) (root : Located) (old : Option (List ℕ)) (names : List Name) → length names ≡ 0 →
-    IsPermutation (dead_in root) (map listed_name names) → IsNonDecreasingBy (λ (name : Name). name.start) names →
+pub none_reported : (is_json : Bool) (file text : List ℕ) (root : Located) (old : Option (List ℕ)) (names : List UnusedName) → length names ≡ 0 →
+    IsPermutation (unused_in root) (map written_name names) → IsNonDecreasingBy start_of names →
     AreReported is_json file text root old old 0
 none_reported is_json file text root old [] none same order = record {
   names = [];
   exactly = same;
   order = order;
   written = Appends-nil old;
-  status_is = status_none (dead_in root) (sym (same_length root [] same));
+  status_is = status_none (unused_in root) (sym (same_length root [] same));
 }
 none_reported is_json file text root old (name ∷ names) none same order = absurd (omega (arith, none))
 
 -- a tree with dead names is reported
-pub some_reported : (is_json : Bool) (file text : List ℕ) (root : Located) (old new : Option (List ℕ)) (names : List Name) →
-    (length names ≡ 0 → ⊥) → IsPermutation (dead_in root) (map listed_name names) → IsNonDecreasingBy (λ (name : Name). name.start) names →
+pub some_reported : (is_json : Bool) (file text : List ℕ) (root : Located) (old new : Option (List ℕ)) (names : List UnusedName) →
+    (length names ≡ 0 → ⊥) → IsPermutation (unused_in root) (map written_name names) → IsNonDecreasingBy start_of names →
     Appends old new (flat_map (name_output is_json file text) names) → AreReported is_json file text root old new 1
 some_reported is_json file text root old new names some same order written = record {
   names = names;
   exactly = same;
   order = order;
   written = written;
-  status_is = status_some (dead_in root) (λ none. some (same_length root names same ∙ none));
+  status_is = status_some (unused_in root) (λ none. some (same_length root names same ∙ none));
 }
 
 -- a text without errors is reported
@@ -85,7 +86,7 @@ file_reported is_json texts file text old mid new status known kept reported = i
 )
 
 -- the line of one more name is written
-pub lines_more : (f : Name → List ℕ) (names : List Name) (i : ℕ) (d : Name) (old mid new : Option (List ℕ)) → i < length names →
+pub lines_more : (f : UnusedName → List ℕ) (names : List UnusedName) (i : ℕ) (d : UnusedName) (old mid new : Option (List ℕ)) → i < length names →
     Appends old mid (flat_map f (take i names)) → Appends mid new (f (get_or names i d)) → Appends old new (flat_map f (take (i + 1) names))
 lines_more f names i d old mid new within before own =
     let all : flat_map f (take i names) ++ f (get_or names i d) ≡ flat_map f (take (i + 1) names) =

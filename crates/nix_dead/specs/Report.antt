@@ -10,12 +10,13 @@ use Rattle.rnix_grammar.specs.Parsed.{IsParsed}
 use Rattle.nix_cli.specs.JsonString.{json_string, shown_text}
 use Rattle.nix_cli.specs.KnownTexts.{KnownTexts, Agrees}
 use Rattle.nix_cli.specs.MessageLocations.{display_name, line_and_column, location_text}
-use Rattle.nix_dead.specs.Dead.{Listed, listed_name, dead_in}
-use Rattle.nix_dead.specs.declared.dead.Name.{Name}
+use Rattle.nix_lints.specs.UnusedNames.{Written, written_name, unused_in}
+use Rattle.nix_dead.specs.Dead.{start_of}
+use Rattle.nix_lints.specs.declared.unused.UnusedName.{UnusedName}
 
 -- the line of a name in a file
-abbrev pub name_line : List ℕ → List ℕ → Name → List ℕ
-name_line file text name = location_text file text name.start ++ (shown_text (cow_str_bytes name.text) ++ codes " is never used\n")
+abbrev pub name_line : List ℕ → List ℕ → UnusedName → List ℕ
+name_line file text name = location_text file text (start_of name) ++ (shown_text (cow_str_bytes name.text) ++ codes " is never used\n")
 
 -- the members of a JSON object that say where a name is: its line, its column and its offset
 abbrev pub location_members : ℕ × ℕ → ℕ → List ℕ
@@ -23,27 +24,27 @@ location_members location start =
     codes ",\"line\":" ++ decimal location.0 ++ codes ",\"column\":" ++ decimal location.1 ++ codes ",\"start\":" ++ decimal start ++ codes ",\"name\":"
 
 -- the line of a name in a file, as a JSON object
-abbrev pub name_object : List ℕ → List ℕ → Name → List ℕ
+abbrev pub name_object : List ℕ → List ℕ → UnusedName → List ℕ
 name_object file text name =
-    codes "{\"file\":" ++ json_string file ++ location_members (line_and_column text name.start) name.start ++ json_string (cow_str_bytes name.text)
+    codes "{\"file\":" ++ json_string file ++ location_members (line_and_column text (start_of name)) (start_of name) ++ json_string (cow_str_bytes name.text)
     ++ codes "}\n"
 
 -- the line of a name, as text or as JSON
-unfoldable pub name_output : Bool → List ℕ → List ℕ → Name → List ℕ
+unfoldable pub name_output : Bool → List ℕ → List ℕ → UnusedName → List ℕ
 name_output is_json file text name = if is_json then name_object file text name else name_line file text name
 
 -- the exit status, given the names that are never used: 1 if there are any
-abbrev pub status_of : List Listed → ℕ
+abbrev pub status_of : List Written → ℕ
 status_of [] = 0
 status_of (name ∷ names) = 1
 
 -- a tree is reported: a line is written for each of its dead names, in the order of the text
 pub record AreReported (is_json : Bool) (file text : List ℕ) (root : Located) (old new : Option (List ℕ)) (status : ℕ) : Type 0 where
-  pub names : List Name
-  pub exactly : IsPermutation (dead_in root) (map listed_name names)
-  pub order : IsNonDecreasingBy (λ (name : Name). name.start) names
+  pub names : List UnusedName
+  pub exactly : IsPermutation (unused_in root) (map written_name names)
+  pub order : IsNonDecreasingBy start_of names
   pub written : Appends old new (flat_map (name_output is_json file text) names)
-  pub status_is : status ≡ status_of (dead_in root)
+  pub status_is : status ≡ status_of (unused_in root)
 
 -- a text is reported: if it has errors, nothing is written, and the status is 2; otherwise its tree is reported
 pub record IsReported (is_json : Bool) (file text : List ℕ) (old new : Option (List ℕ)) (status : ℕ) : Type 0 where

@@ -6,4 +6,4 @@ mod dead;
 mod report;
 
 pub use command::run;
-pub use dead::{Name, dead_names};
+pub use dead::{dead_names, start_of};

@@ -8,38 +8,40 @@ ghost use Rattle.nix_cli.specs.Statuses.{first_status, AreProcessed};
 ghost use Rattle.nix_dead.specs.Report.{name_line, name_object, name_output, AreReported, IsReported, IsFileReported};
 
 use crate::command::COMMAND;
-use crate::dead::{Name, dead_names};
+use crate::dead::{dead_names, start_of};
 use nix_cli::{
     FAILED, FOUND, Files, Source, TextReader, display_name, location_of, refuse_after_output,
     write_json_string, write_shown, write_source_location,
 };
+use nix_lints::UnusedName;
 use rnix::{Parse, Root, SyntaxNode};
 use rnix_text::{ColumnUnit, LineIndex};
 use std::alloc::Global;
 use std::io::{self, Write};
 
 // Writes the line of a name.
-fn write_line<W: Write>(source: &Source<'_>, name: &Name<'_>, out: &mut W) -> io::Result<()>
+fn write_line<W: Write>(source: &Source<'_>, name: &UnusedName<'_>, out: &mut W) -> io::Result<()>
     requires { IsIndexed source.now }
     ensures { OnOk result (Appends (W.contents out.old) (W.contents out.new) (name_line source.now.name.now source.now.text.now name.now)) }
 {
-    write_source_location(source, name.start, out)?;
+    write_source_location(source, start_of(name), out)?;
     write_shown(name.text.as_str(), out)?;
     out.write_all(b" is never used\n")
 }
 
 // Writes the line of a name as JSON.
-fn write_object<W: Write>(source: &Source<'_>, name: &Name<'_>, out: &mut W) -> io::Result<()>
+fn write_object<W: Write>(source: &Source<'_>, name: &UnusedName<'_>, out: &mut W) -> io::Result<()>
     requires { IsIndexed source.now }
     ensures { OnOk result (Appends (W.contents out.old) (W.contents out.new) (name_object source.now.name.now source.now.text.now name.now)) }
 {
-    let (line, column) = source.position(name.start);
+    let start = start_of(name);
+    let (line, column) = source.position(start);
     out.write_all(b"{\"file\":")?;
     write_json_string(source.name, out)?;
     write!(
         out,
         ",\"line\":{line},\"column\":{column},\"start\":{},\"name\":",
-        name.start
+        start
     )?;
     write_json_string(name.text.as_str(), out)?;
     out.write_all(b"}\n")
@@ -49,7 +51,7 @@ fn write_object<W: Write>(source: &Source<'_>, name: &Name<'_>, out: &mut W) -> 
 #[tactic(auto, unfolding(crate::specs::Report::name_output))]
 fn write_name<W: Write>(
     source: &Source<'_>,
-    name: &Name<'_>,
+    name: &UnusedName<'_>,
     is_json: bool,
     out: &mut W,
 ) -> io::Result<()>
@@ -67,7 +69,7 @@ fn write_name<W: Write>(
 // Writes a line for each name.
 fn write_names<W: Write>(
     source: &Source<'_>,
-    names: &[Name<'_>],
+    names: &[UnusedName<'_>],
     is_json: bool,
     out: &mut W,
 ) -> io::Result<()>

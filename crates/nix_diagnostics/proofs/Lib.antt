@@ -9,3 +9,4 @@ pub mod FollowingExamples
 pub mod MistakeLemmas
 pub mod DescribedLemmas
 pub mod RepeatedNameLemmas
+pub mod CodeNumbers

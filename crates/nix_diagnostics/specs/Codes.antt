@@ -3,10 +3,13 @@ use Rattle.std.specs.Prelude.{List, ℕ, ◌∷◌, [], codes}
 use Rattle.rnix_grammar.specs.Fault.{Fault, too_deep}
 use Rattle.nix_diagnostics.specs.declared.code.Code.{Code}
 use Rattle.nix_diagnostics.specs.declared.code.Code.TheVariants.{SyntaxError, NestedTooDeep, RepeatedAttribute, ForeignSpace, UnboundName, DynamicName}
-use Rattle.nix_diagnostics.specs.declared.code.Code.TheVariants.{LargeInteger, CalledData, BarePath, NeedlessParentheses, ManualInherit}
+use Rattle.nix_diagnostics.specs.declared.code.Code.TheVariants.{LargeInteger, CalledData, BarePath, NeedlessParentheses, ManualInherit, UnusedName}
+use Rattle.nix_diagnostics.specs.declared.code.Code.TheVariants.{NeedlessWith, RepeatedArgument}
 use Rattle.nix_diagnostics.specs.declared.code.Severity.{Severity}
 use Rattle.nix_diagnostics.specs.declared.code.Severity.TheVariants.{Error, Warning}
 use Rattle.nix_diagnostics.specs.declared.rules.Rule.{Rule}
+use Rattle.nix_diagnostics.specs.contracts.code.Code.{the_type}
+use denote.Enum.Declared.{tag_of}
 
 -- the code of an error
 abbrev pub code_of : Fault → Code
@@ -64,6 +67,15 @@ rule_of ManualInherit =
     row (codes "manual-inherit") Warning (codes "An entry that an inherit says")
     (codes "\"inherit\" says this in fewer words")
     (codes "write \"inherit\"")
+rule_of UnusedName = row (codes "unused-name") Warning (codes "A name that nothing uses") (codes "nothing uses this name") (codes "")
+rule_of NeedlessWith =
+    row (codes "needless-with") Warning (codes "A with that no name needs")
+    (codes "no name needs this \"with\"")
+    (codes "leave it out")
+rule_of RepeatedArgument =
+    row (codes "repeated-argument") Error (codes "A name of a pattern that is one of its arguments, too")
+    (codes "an argument of this pattern has the same name")
+    (codes "this is the argument")
 
 -- the severity and the name of a code
 abbrev pub severity_of : Code → Severity
@@ -76,4 +88,9 @@ code_name code = (rule_of code).name
 abbrev pub all_codes : List Code
 all_codes =
     SyntaxError ∷ NestedTooDeep ∷ RepeatedAttribute ∷ ForeignSpace ∷ UnboundName ∷ DynamicName ∷ LargeInteger
-    ∷ CalledData ∷ BarePath ∷ NeedlessParentheses ∷ ManualInherit ∷ []
+    ∷ CalledData ∷ BarePath ∷ NeedlessParentheses ∷ ManualInherit
+    ∷ UnusedName ∷ NeedlessWith ∷ RepeatedArgument ∷ []
+
+-- the number of a code: its place among all codes, from 0
+abbrev pub code_number : Code → ℕ
+code_number = tag_of the_type

@@ -5,6 +5,7 @@ ghost use Rattle.rnix_kinds.specs.SyntaxKind.{is_trivia};
 ghost use Rattle.nix_diagnostics.specs.Independence.{semicolons_of};
 ghost use Rattle.nix_diagnostics.specs.Known.{IsMatching};
 
+use crate::closing_quotes::closing_quote;
 use crate::openings::{Openings, is_bracket, opener_of, opens};
 use crate::semicolons::{Semicolon, add_semicolon};
 use SyntaxKind::*;
@@ -23,6 +24,8 @@ pub struct Opening {
     pub range: TextRange,
     /// Whether it starts a string in `"` that spans several lines.
     pub is_long: bool,
+    /// If it starts a string in `''`, the offset of the first `"` in the string that seems to end it.
+    pub quote: Option<usize>,
     /// Whether it may lack its own closing token: what closes it is the first token of a line that is indented less.
     pub is_suspect: bool,
     // The number of its line, and the indentation of that line in bytes.
@@ -30,6 +33,8 @@ pub struct Opening {
     indent: usize,
     // The kinds of this opening and of those around it, as the sum of their bits.
     kinds: u8,
+    // Whether the number of `"` so far in the string that it starts is odd.
+    is_odd: bool,
 }
 
 // Returns the bit of a kind that opens something.
@@ -59,6 +64,8 @@ struct Brackets {
     suspect: Option<Opening>,
     // The first string in `"` that spans several lines.
     long: Option<Opening>,
+    // The first string in `''` that a `"` seems to end.
+    quoted: Option<Opening>,
     // The starts of the braces that `:` or `@` follows.
     patterns: Vec<usize>,
     // The start of the braces that the last token other than trivia closes.
@@ -82,6 +89,7 @@ impl Brackets {
             unclosed: None,
             suspect: None,
             long: None,
+            quoted: None,
             patterns: Vec::new(alloc),
             closed: None,
             inherit: None,
@@ -89,6 +97,29 @@ impl Brackets {
             line: 0,
             indent: 0,
             is_first: true,
+        }
+    }
+
+    // Searches the content of a string in `''` for a `"` that seems to end the string.
+    fn read_content(&mut self, start: usize, text: &str) {
+        let Some(string) = self.open.last().copied() else {
+            return;
+        };
+        let is_indented = string.kind == TOKEN_STRING_START && string.range.len() == 2;
+        if !is_indented || self.over_limit > 0 {
+            return;
+        }
+        let (quote, is_odd) = closing_quote(text, string.indent, string.is_odd);
+        if let Some(offset) = quote {
+            let quoted = Opening {
+                quote: Some(start.saturating_add(offset)),
+                ..string
+            };
+            self.quoted = Some(self.quoted.unwrap_or(quoted));
+        }
+        let innermost = self.open.len().saturating_sub(1);
+        if let Some(string) = self.open.get_mut(innermost) {
+            string.is_odd = is_odd;
         }
     }
 
@@ -122,10 +153,12 @@ impl Brackets {
             kind,
             range,
             is_long: false,
+            quote: None,
             is_suspect: false,
             line: self.line,
             indent: self.indent,
             kinds: around | bit_of(kind),
+            is_odd: false,
         })?;
         Ok(())
     }
@@ -207,6 +240,10 @@ impl Brackets {
 
     // Reads the next token, of the given kind.
     fn read(&mut self, token: &SyntaxToken<'_>, kind: SyntaxKind) -> Result<(), AllocError> {
+        // The content of a string that is not closed is an unknown text.
+        if matches!(kind, TOKEN_STRING_CONTENT | TOKEN_ERROR) {
+            self.read_content(token.text_range().start(), token.text());
+        }
         if is_trivia(kind) || kind == TOKEN_STRING_CONTENT {
             self.skip(kind, token.text().as_bytes());
             return Ok(());
@@ -225,11 +262,13 @@ impl Brackets {
         Ok(())
     }
 
-    // Returns the best guess at the opening that is never closed. If the innermost one at the end is a string, this is the first string that spans several
-    // lines. Otherwise it is the first one inside something that is closed, the first one that the indentation shows, or the innermost one at the end.
+    // Returns the best guess at the opening that is never closed. If a `"` seems to end a string in `''`, this is that string. If the innermost one at the end
+    // is a string, it is the first string that spans several lines. Otherwise it is the first one inside something that is closed, the first one that the
+    // indentation shows, or the innermost one at the end.
     fn unclosed(&self) -> Option<Opening> {
         let innermost = self.open.last().copied();
         match (self.unclosed, innermost) {
+            _ if self.quoted.is_some() => self.quoted,
             (_, Some(string)) if string.kind == TOKEN_STRING_START => {
                 Some(
                     self.long

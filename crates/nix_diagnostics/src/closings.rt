@@ -159,8 +159,8 @@ fn closing_at_end(opening: Opening, end: usize, text: &str) -> Option<Replacemen
     }
 }
 
-/// Returns the replacement that closes an opening: a string on its first line, anything else before the unexpected token or, without one, at the end of the
-/// text.
+/// Returns the replacement that closes an opening: a string in place of the `"` that seems to end it, or on its first line; anything else before the unexpected
+/// token or, without one, at the end of the text.
 pub fn closing(
     opening: Opening,
     unexpected: Option<&UnexpectedToken<'_>>,
@@ -168,6 +168,10 @@ pub fn closing(
     extra: Option<TextRange>,
     text: &str,
 ) -> Option<Replacement> {
+    if let Some(quote) = opening.quote {
+        let range = TextRange::empty(quote).cover_offset(quote.saturating_add(1));
+        return Some(Replacement::new(range, "''"));
+    }
     if opening.kind == TOKEN_STRING_START {
         return closing_quote(opening, text).filter(|_| opening.range.len() == 1);
     }

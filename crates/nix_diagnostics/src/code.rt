@@ -53,6 +53,12 @@ pub enum Code {
     NeedlessParentheses,
     /// An entry that an `inherit` says in fewer words.
     ManualInherit,
+    /// A name of a `let` or a parameter that nothing uses.
+    UnusedName,
+    /// A `with` that no name needs.
+    NeedlessWith,
+    /// A name of a whole pattern that is one of its arguments, too.
+    RepeatedArgument,
 }
 
 impl Code {
@@ -82,6 +88,9 @@ impl Code {
             Code::BarePath => BARE_PATH,
             Code::NeedlessParentheses => NEEDLESS_PARENTHESES,
             Code::ManualInherit => MANUAL_INHERIT,
+            Code::UnusedName => UNUSED_NAME,
+            Code::NeedlessWith => NEEDLESS_WITH,
+            Code::RepeatedArgument => REPEATED_ARGUMENT,
         }
     }
 

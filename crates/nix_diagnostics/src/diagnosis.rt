@@ -140,7 +140,7 @@ fn explained(
     Ok(Diagnostic {
         code: Code::of(error),
         range,
-        message: message(alloc, error, node.as_ref())?,
+        message: message(alloc, error, node.as_ref(), finder.missing(range))?,
         first_error,
         end_error,
         notes: finder.notes(alloc, error, &root, node, range)?,
@@ -179,7 +179,7 @@ impl<'p> Diagnosis<'p> {
             read,
             starts,
             end: matching.end,
-            finder: NoteFinder::new(matching),
+            finder: NoteFinder::new(matching, is_each),
         })
     }
 

@@ -1,5 +1,6 @@
 //! Guesses at what was meant.
 
+use crate::foreign::{address_sign, is_of_json};
 use crate::unexpected::UnexpectedToken;
 use SyntaxKind::*;
 use rnix::SyntaxKind;
@@ -9,12 +10,18 @@ use rnix::SyntaxKind;
 pub enum Hint {
     /// A `,` or `;` in a list.
     List,
+    /// `=` in a list.
+    NamedItem,
     /// `=` where two values are compared.
     Comparison,
     /// A second comparison of the same values.
     Chain,
     /// `==` or `:` where a name is bound.
     Binding,
+    /// `:` after a name in quotes, in what looks like JSON.
+    Json,
+    /// `@` inside a word, as in an e-mail address.
+    Address,
     /// `=` in a pattern.
     DefaultValue,
     /// No `,` between the names of a pattern.
@@ -52,9 +59,12 @@ impl Hint {
     pub fn message(self) -> &'static str {
         match self {
             Hint::List => "list items are separated by white space alone",
+            Hint::NamedItem => "a list has no names: \"{ name = value; }\" is a set",
             Hint::Comparison => "\"=\" binds a name; to compare, write \"==\"",
             Hint::Chain => "comparisons cannot be chained: put parentheses around the first",
             Hint::Binding => "to bind a name, write \"=\"",
+            Hint::Json => "this looks like JSON: \"rnix json --to-nix\" turns it into Nix",
+            Hint::Address => "to write a string, put it in quotes",
             Hint::DefaultValue => "in a pattern, a default is written \"name ? value\"",
             Hint::Commas => "the names of a pattern are separated by \",\"",
             Hint::Semicolons => "each entry of a set ends with \";\"",
@@ -106,13 +116,20 @@ fn unknown(text: &str) -> Option<Hint> {
     }
 }
 
+// Returns whether a token is a `=` in a list.
+fn is_named_item(unexpected: &UnexpectedToken<'_>) -> bool {
+    unexpected.parent.kind() == NODE_LIST && unexpected.kind_after() != Some(TOKEN_MORE)
+}
+
 // Returns the hint for a token in a pattern, or in braces that were read as a set.
 fn in_pattern(unexpected: &UnexpectedToken<'_>) -> Option<Hint> {
     match unexpected.token.kind() {
         TOKEN_ASSIGN => Some(Hint::DefaultValue),
         TOKEN_COMMA if unexpected.kind_before() == Some(TOKEN_ELLIPSIS) => Some(Hint::Ellipsis),
         TOKEN_COMMA if unexpected.expected == Some(TOKEN_SEMICOLON) => Some(Hint::DefaultValue),
-        TOKEN_SEMICOLON | TOKEN_IDENT => Some(Hint::Commas),
+        TOKEN_SEMICOLON | TOKEN_IDENT if unexpected.expected != Some(TOKEN_L_BRACE) => Some(
+            Hint::Commas,
+        ),
         kind if is_keyword(kind) => Some(Hint::KeywordArgument),
         _ => None,
     }
@@ -121,6 +138,7 @@ fn in_pattern(unexpected: &UnexpectedToken<'_>) -> Option<Hint> {
 // Returns the hint for a token where another is expected.
 fn instead_of(expected: SyntaxKind, unexpected: &UnexpectedToken<'_>) -> Option<Hint> {
     match (unexpected.token.kind(), expected) {
+        (TOKEN_COLON, TOKEN_ASSIGN) if is_of_json(unexpected) => Some(Hint::Json),
         (TOKEN_EQUAL | TOKEN_COLON, TOKEN_ASSIGN) => Some(Hint::Binding),
         (TOKEN_SEMICOLON, TOKEN_ASSIGN) => Some(Hint::Entry),
         (TOKEN_COMMA, TOKEN_SEMICOLON) => Some(Hint::Semicolons),
@@ -146,11 +164,15 @@ pub fn hint_of(unexpected: &UnexpectedToken<'_>) -> Option<Hint> {
         TOKEN_COMMA | TOKEN_SEMICOLON if unexpected.parent.kind() == NODE_LIST => return Some(
             Hint::List,
         ),
+        TOKEN_ASSIGN if is_named_item(unexpected) => return Some(Hint::NamedItem),
         TOKEN_MORE if unexpected.kind_before() == Some(TOKEN_ASSIGN) => return Some(Hint::Arrow),
         TOKEN_UPDATE if unexpected.expects_expression() || unexpected.expects_name() => {
             return Some(Hint::Comment);
         }
         _ => {}
+    }
+    if address_sign(unexpected).is_some() {
+        return Some(Hint::Address);
     }
     if unexpected.is_in_pattern {
         return in_pattern(unexpected);

@@ -2,6 +2,7 @@
 #![tactic(auto)]
 
 mod brackets;
+mod closing_quotes;
 mod closings;
 mod code;
 mod diagnosis;
@@ -9,6 +10,7 @@ mod diagnostic;
 mod ends;
 mod error_nodes;
 mod folding;
+mod foreign;
 mod hints;
 mod locations;
 mod message;
@@ -21,6 +23,7 @@ mod rules;
 mod semicolons;
 mod token_errors;
 mod unexpected;
+mod with_sets;
 mod words;
 
 pub use code::{Code, Severity};

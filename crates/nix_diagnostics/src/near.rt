@@ -3,6 +3,8 @@
 ghost use Rattle.std.specs.Prelude.{◌≡◌, false, nat_lt};
 ghost use Rattle.nix_diagnostics.specs.Following.{is_blank, words, are_close};
 
+use rnix::TextRange;
+
 // The number of characters that are searched for another one.
 const MAX_SEARCHED: usize = 200;
 // The greatest number of bytes that are searched line by line.
@@ -41,6 +43,45 @@ pub fn are_close(text: &[u8], from: usize, to: usize) -> bool
     let rest = text.get(from..).unwrap_or(&[]);
     let between = rest.get(..to.saturating_sub(from)).unwrap_or(rest);
     !between.contains(&b'\n') || has_few_words(between)
+}
+
+// Returns whether a character may be part of a word without quotes, such as an address.
+fn is_of_word(character: char) -> bool {
+    matches!(
+        character,
+        'a'..='z' | 'A'..='Z' | '0'..='9' | '.' | '_' | '+' | '-' | '@' | ':' | '/' | '%'
+    )
+}
+
+// Returns the number of bytes of the word with which a text ends, up to 200 characters.
+fn last_word(text: &str) -> usize {
+    let mut len: usize = 0;
+    for character in text.chars().rev().take(MAX_SEARCHED) {
+        if !is_of_word(character) {
+            break;
+        }
+        len = len.saturating_add(character.len_utf8());
+    }
+    len
+}
+
+// Returns the number of bytes of the word with which a text begins, up to 200 characters.
+fn first_word(text: &str) -> usize {
+    let mut len: usize = 0;
+    for character in text.chars().take(MAX_SEARCHED) {
+        if !is_of_word(character) {
+            break;
+        }
+        len = len.saturating_add(character.len_utf8());
+    }
+    len
+}
+
+/// Returns the range of the word around an offset, up to 200 characters on each side.
+pub fn word_around(text: &str, offset: usize) -> Option<TextRange> {
+    let start = offset.saturating_sub(last_word(text.get(..offset)?));
+    let end = offset.saturating_add(first_word(text.get(offset..)?));
+    Some(TextRange::empty(start).cover_offset(end))
 }
 
 /// Returns the text from an offset up to a character, if it is one of the next 200.

@@ -7,6 +7,7 @@ use crate::hints::hint_of;
 use crate::proposals::proposal;
 use crate::replacement::Replacement;
 use crate::unexpected::UnexpectedToken;
+use crate::with_sets::{set_at_end, set_before};
 use SyntaxKind::*;
 use rnix::ast::{AstNode, Pattern};
 use rnix::{ParseError, SyntaxKind, SyntaxNode, TextRange};
@@ -29,6 +30,9 @@ pub struct Note {
 // Returns the message for a token that opens something and is not closed.
 fn opened(opening: Opening) -> &'static str {
     match opening.kind {
+        TOKEN_STRING_START if opening.quote.is_some() => {
+            "this string begins with '', but \" seems to end it"
+        }
         TOKEN_STRING_START if opening.is_long => {
             "this string continues on the next line: is a quote missing?"
         }
@@ -86,6 +90,15 @@ fn first_argument(
     None
 }
 
+// Returns the note on an offset where a `;` is missing.
+fn semicolon_at(offset: usize) -> Note {
+    Note {
+        range: Some(TextRange::empty(offset)),
+        message: "\";\" is missing here",
+        replacement: Some(Replacement::insertion(offset, ";")),
+    }
+}
+
 // Returns the note on the position before an unexpected token where a `;` is missing.
 fn missing_semicolon(unexpected: &UnexpectedToken<'_>) -> Option<Note> {
     let offset = match unexpected.parent.kind() {
@@ -98,11 +111,16 @@ fn missing_semicolon(unexpected: &UnexpectedToken<'_>) -> Option<Note> {
         _ if unexpected.expected == Some(TOKEN_SEMICOLON) => unexpected.end_of_value()?,
         _ => return None,
     };
-    Some(Note {
-        range: Some(TextRange::empty(offset)),
-        message: "\";\" is missing here",
-        replacement: Some(Replacement::insertion(offset, ";")),
-    })
+    Some(semicolon_at(offset))
+}
+
+// Returns whether an error says that a `;` may be missing at the end of the text.
+fn lacks_semicolon(error: &ParseError) -> bool {
+    match error {
+        ParseError::UnexpectedEOF => true,
+        ParseError::UnexpectedEOFWanted(expected) => expected.contains(&TOKEN_SEMICOLON),
+        _ => false,
+    }
 }
 
 // Returns the note on an `inherit` whose `;` is missing at the end of the text, where the error is shown.
@@ -111,12 +129,7 @@ fn open_inherit(
     inherit: Option<TextRange>,
     location: TextRange,
 ) -> Option<Note> {
-    let is_missing = match error {
-        ParseError::UnexpectedEOF => true,
-        ParseError::UnexpectedEOFWanted(expected) => expected.contains(&TOKEN_SEMICOLON),
-        _ => false,
-    };
-    if !is_missing {
+    if !lacks_semicolon(error) {
         return None;
     }
     Some(Note {
@@ -124,6 +137,15 @@ fn open_inherit(
         message: "this \"inherit\" has no \";\"",
         replacement: Some(Replacement::insertion(location.end(), ";")),
     })
+}
+
+// Returns whether an unexpected token is more likely outside a list or set that is not closed than meant to be in it.
+fn is_outside(unexpected: &UnexpectedToken<'_>) -> bool {
+    match unexpected.token.kind() {
+        TOKEN_ASSIGN | TOKEN_SEMICOLON => unexpected.expects_expression(),
+        TOKEN_IN | TOKEN_THEN | TOKEN_ELSE => unexpected.expects_name(),
+        _ => false,
+    }
 }
 
 // Returns the note on an unexpected token: a hint, or the position where a `;` is missing. If `is_explained`, an unclosed opening explains the error, and only
@@ -143,9 +165,11 @@ fn remark(
             replacement: Some(Replacement::new(unexpected.token.text_range(), "")),
         });
     }
+    if let Some(offset) = set_before(unexpected) {
+        return Some(semicolon_at(offset));
+    }
     match hint_of(unexpected) {
-        Some(_) if is_explained && kind == TOKEN_SEMICOLON && unexpected.expects_expression() =>
-            None,
+        Some(_) if is_explained && is_outside(unexpected) => None,
         Some(hint) => Some(Note {
             range: None,
             message: hint.message(),
@@ -172,20 +196,51 @@ pub struct NoteFinder {
     matching: Matching,
     // The number of entries of patterns that may still be searched.
     entries_remaining: usize,
+    // Whether a `with` was searched for at the end of the text.
+    has_searched_end: bool,
+    // Whether each error is shown, and not one for each mistake.
+    is_each: bool,
 }
 
 impl NoteFinder {
-    /// Returns a finder for a text with these brackets.
-    pub fn new(matching: Matching) -> NoteFinder {
+    /// Returns a finder for a text with these brackets, for each error or one for each mistake.
+    pub fn new(matching: Matching, is_each: bool) -> NoteFinder {
         NoteFinder {
             matching,
             entries_remaining: MAX_ENTRIES,
+            has_searched_end: false,
+            is_each,
         }
     }
 
     /// Returns a finder for errors about repeated names, whose notes need no brackets.
     pub fn of_names(alloc: Global) -> NoteFinder {
-        NoteFinder::new(Matching::none(alloc))
+        NoteFinder::new(Matching::none(alloc), false)
+    }
+
+    /// Returns what is open at the location of a mistake and is never closed. Returns `None` if each error is shown, since many may follow from one opening.
+    pub fn missing(&self, location: TextRange) -> Option<Opening> {
+        if self.is_each {
+            return None;
+        }
+        self.unclosed(location)
+    }
+
+    // Returns the best guess at what is open at a location and is never closed.
+    fn unclosed(&self, location: TextRange) -> Option<Opening> {
+        self.matching
+            .mismatch
+            .unclosed
+            .filter(|opening| opening.range.start() <= location.start())
+    }
+
+    // Returns the note on the set of a `with` at the end of the text whose `;` is missing. Searches for it once.
+    fn open_with(&mut self, error: &ParseError, root: &SyntaxNode<'_>) -> Option<Note> {
+        if self.has_searched_end || !lacks_semicolon(error) {
+            return None;
+        }
+        self.has_searched_end = true;
+        Some(semicolon_at(set_at_end(root)?))
     }
 
     /// Returns the notes on an error, given its error node and the location where it is shown.
@@ -204,9 +259,7 @@ impl NoteFinder {
         let mut notes = Vec::new(alloc);
         let (mismatch, text) = (self.matching.mismatch, root.text());
         let unexpected = UnexpectedToken::of(error, node, &self.matching);
-        let unclosed = mismatch
-            .unclosed
-            .filter(|opening| opening.range.start() <= location.start());
+        let unclosed = self.unclosed(location);
         if let Some(opening) = unclosed {
             notes.push(Note {
                 range: Some(opening.range),
@@ -215,6 +268,7 @@ impl NoteFinder {
             })?;
         }
         notes.extend(open_inherit(error, mismatch.inherit, location))?;
+        notes.extend(self.open_with(error, root))?;
         if let Some(unexpected) = unexpected {
             notes.extend(remark(&unexpected, unclosed.is_some(), mismatch.extra, text))?;
         }

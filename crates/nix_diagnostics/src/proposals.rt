@@ -1,7 +1,8 @@
 //! Replacements that hints propose.
 
+use crate::foreign::address_sign;
 use crate::hints::Hint;
-use crate::near::text_before;
+use crate::near::{text_before, word_around};
 use crate::replacement::Replacement;
 use crate::unexpected::UnexpectedToken;
 use SyntaxKind::*;
@@ -14,6 +15,16 @@ const MAX_AROUND: usize = 64;
 // Writes a text for a token.
 fn instead(token: &SyntaxToken<'_>, text: &'static str) -> Option<Replacement> {
     Some(Replacement::new(token.text_range(), text))
+}
+
+// Writes quotes around a range.
+fn in_quotes(range: TextRange) -> Replacement {
+    Replacement {
+        range,
+        before: "\"",
+        kept: range,
+        after: "\"",
+    }
 }
 
 // Writes `=` for `==` or `:`, after a space if none precedes it.
@@ -139,6 +150,13 @@ fn quotes(token: &SyntaxToken<'_>, text: &str) -> Option<Replacement> {
     })
 }
 
+// Writes quotes around the word that contains a `@`.
+fn address(unexpected: &UnexpectedToken<'_>, text: &str) -> Option<Replacement> {
+    let sign = address_sign(unexpected)?;
+    let word = word_around(text, sign.text_range().start())?;
+    Some(in_quotes(word))
+}
+
 // Writes a space for a no-break space, and nothing for other invisible characters.
 fn visible(token: &SyntaxToken<'_>) -> Replacement {
     let is_space = token.text().starts_with('\u{a0}');
@@ -159,18 +177,15 @@ pub fn proposal(hint: Hint, unexpected: &UnexpectedToken<'_>, text: &str) -> Opt
         Hint::Semicolons => instead(token, ";"),
         Hint::Arrow => arrow(unexpected),
         Hint::Comment => instead(token, "#"),
-        Hint::KeywordName => Some(Replacement {
-            range: token.text_range(),
-            before: "\"",
-            kept: token.text_range(),
-            after: "\"",
-        }),
+        Hint::KeywordName => Some(in_quotes(token.text_range())),
         Hint::Quotes => quotes(token, text),
         Hint::And => instead(token, "&&"),
         Hint::Or => instead(token, "||"),
         Hint::Interpolation => interpolation(unexpected),
         Hint::Invisible => Some(visible(token)),
         Hint::Chain => parentheses(unexpected),
-        Hint::Entry | Hint::Ellipsis | Hint::ElseBranch | Hint::KeywordArgument => { None }
+        Hint::Address => address(unexpected, text),
+        Hint::Entry | Hint::Ellipsis | Hint::ElseBranch | Hint::KeywordArgument => None,
+        Hint::Json | Hint::NamedItem => None,
     }
 }

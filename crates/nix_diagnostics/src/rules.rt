@@ -18,7 +18,7 @@ pub struct Rule {
 }
 
 /// All codes.
-pub const CODES: [Code; 11] = [
+pub const CODES: [Code; 14] = [
     Code::SyntaxError,
     Code::NestedTooDeep,
     Code::RepeatedAttribute,
@@ -30,6 +30,9 @@ pub const CODES: [Code; 11] = [
     Code::BarePath,
     Code::NeedlessParentheses,
     Code::ManualInherit,
+    Code::UnusedName,
+    Code::NeedlessWith,
+    Code::RepeatedArgument,
 ];
 
 /// The row of `syntax-error`.
@@ -129,4 +132,31 @@ pub const MANUAL_INHERIT: Rule = Rule {
     title: "An entry that an inherit says",
     message: "\"inherit\" says this in fewer words",
     note: "write \"inherit\"",
+};
+
+/// The row of `unused-name`.
+pub const UNUSED_NAME: Rule = Rule {
+    name: "unused-name",
+    severity: Severity::Warning,
+    title: "A name that nothing uses",
+    message: "nothing uses this name",
+    note: "",
+};
+
+/// The row of `needless-with`.
+pub const NEEDLESS_WITH: Rule = Rule {
+    name: "needless-with",
+    severity: Severity::Warning,
+    title: "A with that no name needs",
+    message: "no name needs this \"with\"",
+    note: "leave it out",
+};
+
+/// The row of `repeated-argument`.
+pub const REPEATED_ARGUMENT: Rule = Rule {
+    name: "repeated-argument",
+    severity: Severity::Error,
+    title: "A name of a pattern that is one of its arguments, too",
+    message: "an argument of this pattern has the same name",
+    note: "this is the argument",
 };

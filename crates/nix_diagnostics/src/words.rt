@@ -76,8 +76,8 @@ fn is_plain(text: &str) -> bool {
     text.bytes().all(|byte| matches!(byte, b' '..=b'~'))
 }
 
-/// Adds a text with every character visible and on one line.
-pub fn add_shown(own: &str, text: &mut String) -> Result<(), AllocError> {
+// Adds a text with every character visible and on one line.
+fn add_shown(own: &str, text: &mut String) -> Result<(), AllocError> {
     if is_plain(own) {
         return text.push_str(own);
     }
@@ -85,6 +85,14 @@ pub fn add_shown(own: &str, text: &mut String) -> Result<(), AllocError> {
         text.push(shown(letter))?;
     }
     Ok(())
+}
+
+/// Adds a text in quotes, or in backticks if it contains quotes.
+pub fn add_quoted(own: &str, text: &mut String) -> Result<(), AllocError> {
+    let quote = if own.contains('"') { '`' } else { '"' };
+    text.push(quote)?;
+    add_shown(own, text)?;
+    text.push(quote)
 }
 
 /// Adds the words for the token that was found.
@@ -101,7 +109,5 @@ pub fn add_found(token: &SyntaxToken<'_>, text: &mut String) -> Result<(), Alloc
         }
         None => {}
     }
-    text.push('"')?;
-    add_shown(own, text)?;
-    text.push('"')
+    add_quoted(own, text)
 }

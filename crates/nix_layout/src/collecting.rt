@@ -1,14 +1,15 @@
 //! From the tree to pieces and groups, in one walk.
 
-use crate::absorbing::{absorbs, own_target, takes_target};
+use crate::absorbing::{Offer, absorbs, offer_of, takes_targets};
 use crate::comments::{plain_gap, set_gaps};
-use crate::frame::{Frame, NO_FRAME, has_group};
-use crate::grouping::{child_of, is_atom, plain_child};
-use crate::layout::{Group, Layout, Target};
+use crate::describing::{atom_child, child_of, plain_child};
+use crate::frame::{Frame, NO_FRAME, has_group, is_on_one_line, names_of, place_in};
+use crate::grouping::is_atom;
+use crate::layout::{Group, Layout, Target, TargetKind, Targets};
 use crate::lines::with_lines;
 use crate::piece::{Piece, as_stored, line_feeds_in};
 use crate::spacing::{
-    Child, Spacing, after_first_comma, around_text, broken, distant, keeps_distance, spacing_in,
+    Child, Spacing, after_first_comma, around_text, distant, keeps_distance, spacing_in,
 };
 use rnix::ast::BinOpKind;
 use rnix::{NodeOrToken, SyntaxElement, SyntaxKind, SyntaxNode, SyntaxToken, TextRange};
@@ -57,19 +58,19 @@ impl Collector {
     }
 
     // Opens a group at the next piece, inside another one.
-    fn open_group(&mut self, parent: u32, kind: SyntaxKind) -> Result<u32, AllocError> {
+    fn open_group(&mut self, parent: u32, absorbs: bool) -> Result<u32, AllocError> {
         let number = as_stored(self.layout.groups.len());
-        let group = Group::new(self.layout.pieces.len(), parent, absorbs(kind));
+        let group = Group::new(self.layout.pieces.len(), parent, absorbs);
         self.layout.groups.push(group)?;
         Ok(number)
     }
 
     // Closes a group after the last piece.
-    fn close_group(&mut self, number: u32, target: Option<Target>) {
+    fn close_group(&mut self, number: u32, targets: Targets) {
         let number = number as usize;
         let end = self.layout.pieces.len();
         if number < self.layout.groups.len() {
-            self.layout.groups[number] = self.layout.groups[number].closed(end, target);
+            self.layout.groups[number] = self.layout.groups[number].closed(end, targets);
         }
     }
 
@@ -96,16 +97,12 @@ impl Collector {
         }
     }
 
-    // Returns the gap between a child of a node and the next one. A conditional whose `else` is followed by another one is broken.
+    // Returns the gap between a child of a node and the next one.
     fn wanted(&self, frame: &Frame, before: SyntaxKind, child: Child) -> Spacing {
         if before == SyntaxKind::TOKEN_COMMA && self.begins_line() {
-            return after_first_comma();
-        }
-        let wanted = spacing_in(frame.kind, before, child);
-        if frame.kind == SyntaxKind::NODE_IF_ELSE && !frame.is_own && !wanted.is_inner {
-            broken(wanted)
+            after_first_comma()
         } else {
-            wanted
+            spacing_in(frame, before, child)
         }
     }
 
@@ -123,7 +120,7 @@ impl Collector {
                 };
                 self.spacing = wanted;
             }
-            self.frames[top].before = Some(child.kind);
+            self.frames[top] = self.frames[top].after(child.kind);
         }
     }
 
@@ -135,19 +132,12 @@ impl Collector {
         }
     }
 
-    // Records the target of a child as that of the innermost node, if that node may be broken there.
-    fn offer_target(&mut self, child: SyntaxKind, target: Option<Target>) {
-        let Some(target) = target else {
-            return;
-        };
+    // Records the targets of a child as those of the innermost node, if that node may be broken there.
+    fn take_targets(&mut self, offer: &Offer) {
         let end = self.layout.pieces.len();
         let top = self.frames.len().saturating_sub(1);
-        if top < self.frames.len() {
-            let frame = &self.frames[top];
-            let is_open = frame.is_named_lambda || frame.kind != SyntaxKind::NODE_LAMBDA;
-            if is_open && takes_target(frame.kind, frame.operator, child, target, end) {
-                self.frames[top].target = Some(target);
-            }
+        if top < self.frames.len() && takes_targets(&self.frames[top], offer, end) {
+            self.frames[top] = self.frames[top].with_targets(offer);
         }
     }
 
@@ -188,15 +178,15 @@ impl Collector {
         Ok(())
     }
 
-    // Enters a string, which is one piece.
+    // Enters a string or a path, which is one piece.
     fn enter_string(&mut self, node: &SyntaxNode<'_>) -> Result<(), AllocError> {
         let number = self.layout.pieces.len();
         let text = Piece::new(node.text_range().start(), node.text());
         let piece = with_lines(self.alloc, node, text, &mut self.layout.lines)?;
         self.add_item(piece, node.kind())?;
-        if piece.has_lines() {
-            let target = Target::new(number, number, false);
-            self.offer_target(node.kind(), Some(target));
+        if piece.has_lines() && node.kind() == SyntaxKind::NODE_STRING {
+            let target = Target::new(number, number, TargetKind::Block);
+            self.take_targets(&Offer::of_string(target));
         }
         Ok(())
     }
@@ -205,29 +195,17 @@ impl Collector {
     fn enter_atom(&mut self, node: &SyntaxNode<'_>) -> Result<(), AllocError> {
         self.atom_end = self.end_of(node);
         let kind = node.kind();
-        self.note_child(plain_child(kind));
-        if kind == SyntaxKind::NODE_STRING {
-            return self.enter_string(node);
-        }
-        let range = node.text_range();
+        self.note_child(atom_child(node));
         if kind == SyntaxKind::NODE_IDENT {
-            self.add_word(range, kind)
+            self.add_word(node.text_range(), kind)
         } else {
-            self.add_item(Piece::new(range.start(), node.text()), kind)
+            self.enter_string(node)
         }
     }
 
     // Returns the number of elements up to the end of the node that the walk enters.
     fn end_of(&self, node: &SyntaxNode<'_>) -> usize {
         self.passed.saturating_add(node.inside_count())
-    }
-
-    // Returns whether the next node has a group of its own, or else shares that of the node around it.
-    fn opens_group(&self, kind: SyntaxKind, operator: Option<BinOpKind>) -> bool {
-        match self.frames.last() {
-            Some(parent) => has_group(parent, kind, operator),
-            None => has_group(&NO_FRAME, kind, operator),
-        }
     }
 
     // Enters a node that is not one piece.
@@ -238,33 +216,35 @@ impl Collector {
         } else {
             None
         };
-        let is_own = self.opens_group(kind, operator);
-        let around = self.frames.last().map_or(0, |frame| frame.group);
-        let child = child_of(node);
+        let parent = self.frames.last().copied().unwrap_or(NO_FRAME);
+        let place = place_in(&parent);
+        let is_own = has_group(&parent, kind, operator);
+        let child = child_of(node, place);
         self.note_child(child);
         let group = if is_own {
-            self.open_group(around, kind)?
+            self.open_group(parent.group, absorbs(kind, place))?
         } else {
-            around
+            parent.group
         };
         let inner = if kind == SyntaxKind::NODE_IF_ELSE {
-            self.open_group(group, kind)?
+            self.open_group(group, false)?
         } else {
             group
         };
-        let end = self.end_of(node);
-        self.frames.push(Frame {
-            kind,
+        let frame = Frame {
             operator,
+            place,
             open: as_stored(self.layout.pieces.len()),
             group,
             inner,
             is_own,
-            before: None,
-            is_named_lambda: child.is_named_lambda,
-            target: None,
-            end,
-        })?;
+            names: names_of(&parent, child),
+            is_plain: is_on_one_line(&parent, child, place),
+            is_hung: child.is_hung || (parent.is_hung && !is_own),
+            end: self.end_of(node),
+            ..Frame::of(child)
+        };
+        self.frames.push(frame)?;
         Ok(())
     }
 
@@ -280,7 +260,7 @@ impl Collector {
     // Closes the group of the innermost node's condition.
     fn close_condition(&mut self) {
         let inner = self.frames.last().map_or(0, |frame| frame.inner);
-        self.close_group(inner, None);
+        self.close_group(inner, Targets::NONE);
     }
 
     // Enters a comment.
@@ -312,16 +292,10 @@ impl Collector {
     fn leave_node(&mut self) {
         if let Some(frame) = self.frames.pop() {
             let end = self.layout.pieces.len();
-            let own = own_target(frame.kind, frame.open as usize, end);
-            let target = if frame.kind == SyntaxKind::NODE_PAREN {
-                frame.target.or(own)
-            } else {
-                own.or(frame.target)
-            };
             if frame.is_own {
-                self.close_group(frame.group, frame.target);
+                self.close_group(frame.group, frame.targets);
             }
-            self.offer_target(frame.kind, target);
+            self.take_targets(&offer_of(&frame, end));
         }
     }
 

@@ -45,7 +45,8 @@ fn comment_level(spacing: Spacing) -> Level {
     }
 }
 
-// Returns the gap before a comment, given whether it is the first of its comments, whether the one before it ended its line, and whether this one does.
+// Returns the gap before a comment, given whether it is the first of its comments, whether the one before it ended its line, and whether this one does. A first
+// comment that ends its line has one of its own after an opening bracket or keyword.
 fn comment_gap(
     piece: &Piece,
     spacing: Spacing,
@@ -60,8 +61,9 @@ fn comment_gap(
         level: comment_level(spacing),
         ..plain_gap(spacing, group, piece.line_feeds)
     };
-    let may_be_empty = !(is_first && spacing.opens);
-    if is_ended || (ends && piece.line_feeds > 0) {
+    let is_opening = is_first && spacing.opens;
+    let may_be_empty = !is_opening || spacing.keeps_empty;
+    if is_ended || (ends && (piece.line_feeds > 0 || is_opening)) {
         ended(gap, piece.line_feeds, may_be_empty)
     } else if ends || !is_first {
         spaced(gap)
@@ -74,7 +76,11 @@ fn comment_gap(
 fn gap_after(piece: &Piece, spacing: Spacing, group: u32, is_ended: bool) -> Gap {
     let gap = plain_gap(spacing, group, piece.line_feeds);
     if is_ended {
-        ended(gap, piece.line_feeds, !spacing.closes)
+        ended(
+            gap,
+            piece.line_feeds,
+            !spacing.closes || spacing.keeps_empty,
+        )
     } else if spacing.closes {
         Gap {
             keeps_break: true,

@@ -6,22 +6,55 @@ use crate::piece::{Piece, as_stored};
 /// The number of spaces per level.
 pub const STEP: usize = 2;
 
+/// What a target is, as far as that decides where it is broken.
+#[derive(Clone, Copy, PartialEq, Eq)]
+pub enum TargetKind {
+    /// Parentheses with what is inside.
+    Paren,
+    /// A list that is broken only if it has several lines anyway.
+    ShortList,
+    /// A set, another list or a string.
+    Block,
+}
+
 /// The part of a group that may be broken while the rest of the group is not: from its opening bracket or quote to the closing one.
 #[derive(Clone, Copy, PartialEq, Eq)]
 pub struct Target {
     open: u32,
     close: u32,
-    /// Whether these are parentheses.
-    pub is_paren: bool,
+    pub kind: TargetKind,
+}
+
+/// The parts of a group of which one may be broken while the rest of the group is not: the last one, and the last but one.
+#[derive(Clone, Copy, PartialEq, Eq)]
+pub struct Targets {
+    pub last: Option<Target>,
+    pub other: Option<Target>,
+}
+
+impl Targets {
+    /// No parts.
+    pub const NONE: Targets = Targets {
+        last: None,
+        other: None,
+    };
+
+    /// Returns the targets with one more behind them.
+    pub fn followed_by(self, target: Target) -> Targets {
+        Targets {
+            last: Some(target),
+            other: self.last,
+        }
+    }
 }
 
 impl Target {
     /// Returns the target from one piece to another, given their numbers.
-    pub fn new(open: usize, close: usize, is_paren: bool) -> Target {
+    pub fn new(open: usize, close: usize, kind: TargetKind) -> Target {
         Target {
             open: as_stored(open),
             close: as_stored(close),
-            is_paren,
+            kind,
         }
     }
 
@@ -43,30 +76,30 @@ pub struct Group {
     end: u32,
     /// The number of the group around it; its own number if it is the outermost.
     pub parent: u32,
-    /// The part that may be broken instead of the whole group.
-    pub target: Option<Target>,
-    /// Whether the target is broken whenever that makes the group fit, or only if the group around it has the same target.
+    /// The parts that may be broken instead of the whole group.
+    pub targets: Targets,
+    /// Whether a target is broken whenever that makes the group fit, or only if the group around it has the same target.
     pub absorbs: bool,
 }
 
 impl Group {
-    /// Returns a group without pieces and target, given the number of its first piece and the group around it.
+    /// Returns a group without pieces and targets, given the number of its first piece and the group around it.
     pub fn new(first: usize, parent: u32, absorbs: bool) -> Group {
         let first = as_stored(first);
         Group {
             first,
             end: first,
             parent,
-            target: None,
+            targets: Targets::NONE,
             absorbs,
         }
     }
 
-    /// Returns the same group with its pieces and its target.
-    pub fn closed(self, end: usize, target: Option<Target>) -> Group {
+    /// Returns the same group with its pieces and its targets.
+    pub fn closed(self, end: usize, targets: Targets) -> Group {
         Group {
             end: as_stored(end),
-            target,
+            targets,
             ..self
         }
     }

@@ -4,6 +4,7 @@
 mod absorbing;
 mod collecting;
 mod comments;
+mod describing;
 mod frame;
 mod grouping;
 mod indentation;

@@ -15,6 +15,8 @@ pub enum Role {
     Empty,
     /// The closing quotes alone.
     Closing,
+    /// Not a line: these are blanks beside a brace of an interpolation, which are left out.
+    Inside,
 }
 
 /// A line of a string that is moved: the spaces at its start are replaced.
@@ -38,7 +40,7 @@ impl Line {
     pub fn indent(self, code: usize) -> usize {
         match self.role {
             Role::Text(offset) => code.saturating_add(STEP).saturating_add(offset),
-            Role::Empty => 0,
+            Role::Empty | Role::Inside => 0,
             Role::Closing => code,
         }
     }
@@ -84,6 +86,9 @@ struct LineWalk {
     strings: Vec<Option<MovedString>>,
     // The current line, if it has nothing but spaces so far.
     current: Option<Line>,
+    // The kind of the last token that is not white space, and the blanks after it if they have no line feed.
+    last: SyntaxKind,
+    blanks: Option<Line>,
 }
 
 // Returns the line that begins at an offset.
@@ -194,8 +199,41 @@ impl LineWalk {
         }
     }
 
+    // Before a token, adds the blanks before it if they are beside a brace of an interpolation and no comment is beside them.
+    fn end_inside(&mut self, next: SyntaxKind) -> Result<(), AllocError> {
+        let last = self.last;
+        self.last = next;
+        let Some(blanks) = self.blanks else {
+            return Ok(());
+        };
+        self.blanks = None;
+        let is_inside = last == SyntaxKind::TOKEN_INTERPOL_START
+            || next == SyntaxKind::TOKEN_INTERPOL_END;
+        let has_comment = last == SyntaxKind::TOKEN_COMMENT || next == SyntaxKind::TOKEN_COMMENT;
+        if is_inside && !has_comment {
+            self.lines.push(blanks)?;
+        }
+        Ok(())
+    }
+
+    // Notes a token, and the blanks before it.
+    fn note_token(&mut self, token: &SyntaxToken<'_>) -> Result<(), AllocError> {
+        if token.kind() != SyntaxKind::TOKEN_WHITESPACE {
+            return self.end_inside(token.kind());
+        }
+        if !token.text().contains('\n') {
+            self.blanks = Some(Line {
+                start: token.text_range().start(),
+                blanks: token.text().len(),
+                role: Role::Inside,
+            });
+        }
+        Ok(())
+    }
+
     // Passes a token. Lines move only if they begin in a string that is moved.
     fn pass_token(&mut self, token: &SyntaxToken<'_>) -> Result<(), AllocError> {
+        self.note_token(token)?;
         let Some(string) = self.innermost() else {
             return Ok(());
         };
@@ -235,14 +273,21 @@ impl LineWalk {
     }
 }
 
-// Returns the lines of a string that is moved, with the smallest indentation of its lines, and of the strings inside it.
-fn lines_of(alloc: Global, string: &SyntaxNode<'_>, least: usize) -> Result<Vec<Line>, AllocError> {
+// Returns the lines of a string that is moved and of the strings inside it, given the smallest indentation of its lines, and the blanks that are left out. If
+// it is not moved, returns only these.
+fn lines_of(
+    alloc: Global,
+    string: &SyntaxNode<'_>,
+    least: Option<usize>,
+) -> Result<Vec<Line>, AllocError> {
     let mut walk = LineWalk {
         lines: Vec::new(alloc),
         strings: Vec::new(alloc),
         current: None,
+        last: SyntaxKind::NODE_STRING,
+        blanks: None,
     };
-    walk.strings.push(Some(MovedString {
+    walk.strings.push(least.map(|least| MovedString {
         least,
         outermost: least,
         offset: 0,
@@ -255,8 +300,19 @@ fn lines_of(alloc: Global, string: &SyntaxNode<'_>, least: usize) -> Result<Vec<
     Ok(walk.lines)
 }
 
-// Returns the number of characters of a string's last line, if that is the given line; they are counted from the indentation of the code.
-fn last_width(piece: &Piece, text: &str, line: Line) -> Option<usize> {
+// Returns the last line that is moved.
+fn last_moved(lines: &[Line]) -> Option<Line> {
+    for line in lines.iter().rev() {
+        if line.role != Role::Inside {
+            return Some(*line);
+        }
+    }
+    None
+}
+
+// Returns the number of characters of a string's last line, if that is moved; they are counted from the indentation of the code.
+fn last_width(piece: &Piece, text: &str, lines: &[Line]) -> Option<usize> {
+    let line = last_moved(lines)?;
     let rest = text.get(line.end_of_blanks().saturating_sub(piece.start())..)?;
     if rest.contains('\n') {
         return None;
@@ -264,22 +320,45 @@ fn last_width(piece: &Piece, text: &str, line: Line) -> Option<usize> {
     Some(line.indent(0).saturating_add(rest.chars().count()))
 }
 
-/// Returns the piece of a string. If the string's lines are moved, adds them to those of other strings.
+// Returns the number of blanks that are left out between two offsets.
+fn left_out(lines: &[Line], start: usize, end: usize) -> usize {
+    let mut count = 0usize;
+    for line in lines {
+        if line.role == Role::Inside && start <= line.start && line.start < end {
+            count = count.saturating_add(line.blanks);
+        }
+    }
+    count
+}
+
+// Returns the piece of a string without the blanks that are left out.
+fn without_blanks(piece: Piece, text: &str, lines: &[Line]) -> Piece {
+    let start = piece.start();
+    let first_end = start.saturating_add(text.find('\n').unwrap_or(text.len()));
+    let last_start = start.saturating_add(text.rfind('\n').unwrap_or(0));
+    let first = left_out(lines, start, first_end);
+    let last = left_out(lines, last_start, piece.end());
+    piece.narrowed(first, last)
+}
+
+/// Returns the piece of a string or a path. If a string's lines are moved, or blanks inside are left out, adds them to those of other strings.
 pub fn with_lines(
     alloc: Global,
-    string: &SyntaxNode<'_>,
+    node: &SyntaxNode<'_>,
     piece: Piece,
     lines: &mut Vec<Line>,
 ) -> Result<Piece, AllocError> {
-    let Some(least) = indentation_of(string) else {
+    let least = indentation_of(node);
+    if least.is_none() && node.first_child().is_none() {
         return Ok(piece);
-    };
-    let own = lines_of(alloc, string, least)?;
+    }
+    let own = lines_of(alloc, node, least)?;
+    if own.is_empty() {
+        return Ok(piece);
+    }
     let first = lines.len();
     lines.extend_from_slice(&own)?;
-    let last = match own.last() {
-        Some(line) => last_width(&piece, string.text(), *line),
-        None => None,
-    };
-    Ok(piece.with_moved_lines(first, lines.len(), last))
+    let last = last_width(&piece, node.text(), &own);
+    let moved = piece.with_moved_lines(first, lines.len(), last);
+    Ok(without_blanks(moved, node.text(), &own))
 }

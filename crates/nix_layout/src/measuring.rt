@@ -1,6 +1,6 @@
 //! Prefix sums of the widths of pieces, which tell in constant time whether a group fits on a line.
 
-use crate::layout::{Group, Layout, Target};
+use crate::layout::{Group, Layout, Target, TargetKind};
 use crate::piece::{Piece, as_stored};
 use std::alloc::{AllocError, Global};
 
@@ -31,12 +31,9 @@ pub struct Room {
     pub indent: usize,
     /// The number of columns that have to follow on the same line.
     pub tail: usize,
-    /// The width of the line.
+    /// The largest column at which the line may end.
     pub limit: usize,
 }
-
-// Parentheses wider than this are broken even if other arguments follow.
-const WIDE: usize = 40;
 
 // Returns whether the line always ends in the gap before a piece: 0 or 1.
 fn hard_gap(piece: &Piece) -> usize {
@@ -178,24 +175,13 @@ impl Measures {
         breaks == 0 && column.saturating_add(room.tail) <= room.limit
     }
 
-    // Returns whether the target has to be broken: it has several lines, does not fit on the line, or ends the group.
-    fn has_to_break(&self, pieces: &[Piece], group: &Group, target: Target, room: Room) -> bool {
-        let width = self.width(pieces, group.first(), target.close());
-        let behind = target.close().saturating_add(1);
-        let glued = self.tail(behind);
-        let is_last = behind >= group.end()
-            || pieces.get(behind).map_or(0, |piece| piece.gap.blanks) == 0;
-        (target.is_paren && self.width(pieces, target.open(), target.close()) > WIDE)
-            || self.breaks_inside(pieces, target.open(), target.close().saturating_add(1)) > 0
-            || is_last
-            || room.column.saturating_add(width).saturating_add(glued) > room.limit
-    }
-
     /// Returns whether a group fits if its target is broken: the part before the target on the first line, and the part after it on the last one.
     pub fn fits_around(&self, pieces: &[Piece], group: &Group, target: Target, room: Room) -> bool {
-        self.fits_before(pieces, group, target, room)
+        let behind = target.close().saturating_add(1);
+        (target.kind != TargetKind::ShortList
+            || self.breaks_inside(pieces, target.open(), behind) > 0)
+            && self.fits_before(pieces, group, target, room)
             && self.fits_after(pieces, group, target, room)
-            && self.has_to_break(pieces, group, target, room)
     }
 }
 

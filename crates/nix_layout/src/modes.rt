@@ -1,11 +1,11 @@
 //! How groups are written: on one line, or broken.
 
-use crate::layout::{Group, Layout, STEP};
+use crate::layout::{Group, Layout, STEP, Target, Targets};
 use crate::measuring::{Measures, Room};
 use crate::piece::{Gap, Level, as_stored};
 use std::alloc::{AllocError, Global};
 
-// The number of columns of a line.
+// The number of columns of a line after its indentation.
 const LINE: usize = 100;
 /// The largest number of spaces at the start of a line.
 pub const MOST_BLANKS: usize = 80;
@@ -15,8 +15,9 @@ pub const MOST_BLANKS: usize = 80;
 enum Mode {
     // On one line.
     Flat,
-    // With its target broken.
+    // With its last target broken, or the other one.
     Around,
+    AroundOther,
     // With a line for each part.
     Broken,
 }
@@ -135,15 +136,46 @@ impl Modes {
             .saturating_add(next.width())
     }
 
-    // Returns the mode of a group that does not fit on the line.
-    fn overflow_mode(&self, layout: &Layout, group: &Group, room: Room, is_shared: bool) -> Mode {
-        let Some(target) = group.target else {
-            return Mode::Broken;
+    // Returns the target that is broken in the group around a group, if that is a group and one is.
+    fn outer_target(&self, layout: &Layout, group: &Group) -> Option<Target> {
+        let parent = group.parent as usize;
+        let targets = layout.groups.get(parent)?.targets;
+        match self.group_at(parent).mode {
+            Mode::Around => targets.last,
+            Mode::AroundOther => targets.other,
+            _ => None,
+        }
+    }
+
+    // Returns whether a group may be broken at one of its targets, and fits then.
+    fn fits_around(
+        &self,
+        layout: &Layout,
+        group: &Group,
+        room: Room,
+        target: Option<Target>,
+        outer: Option<Target>,
+    ) -> bool {
+        let Some(part) = target else {
+            return false;
         };
-        let pieces = &layout.pieces;
-        let can_absorb = group.absorbs || is_shared;
-        if can_absorb && self.measures.fits_around(pieces, group, target, room) {
+        let can_absorb = group.absorbs || target == outer;
+        can_absorb && self.measures.fits_around(&layout.pieces, group, part, room)
+    }
+
+    // Returns the mode of a group that does not fit on the line, given the target that is broken in the group around it.
+    fn overflow_mode(
+        &self,
+        layout: &Layout,
+        group: &Group,
+        room: Room,
+        outer: Option<Target>,
+    ) -> Mode {
+        let Targets { last, other } = group.targets;
+        if self.fits_around(layout, group, room, last, outer) {
             Mode::Around
+        } else if self.fits_around(layout, group, room, other, outer) {
+            Mode::AroundOther
         } else {
             Mode::Broken
         }
@@ -161,22 +193,18 @@ impl Modes {
         if number > 0 && around == Mode::Flat {
             return Mode::Flat;
         }
-        let outer = match layout.groups.get(group.parent as usize) {
-            Some(outer) if around == Mode::Around => outer.target,
-            _ => None,
-        };
+        let outer = self.outer_target(layout, group);
         let is_part = outer.is_some_and(|target| group.has_part(target));
         let room = Room {
             column: line_state.column,
             indent: line_state.indent,
             tail: self.tail_of(layout, group),
-            limit: LINE,
+            limit: LINE.saturating_add(line_state.indent),
         };
         if !is_part && self.measures.fits(&layout.pieces, group, room) {
             Mode::Flat
         } else {
-            let is_shared = outer.is_some() && outer == group.target;
-            self.overflow_mode(layout, group, room, is_shared)
+            self.overflow_mode(layout, group, room, outer)
         }
     }
 

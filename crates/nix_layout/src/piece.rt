@@ -32,7 +32,7 @@ pub enum Level {
     Operator,
 }
 
-/// The lines of a string that are moved with the code around it.
+/// The lines of a string that are moved with the code around it, and the blanks in it that are left out.
 #[derive(Clone, Copy, PartialEq, Eq)]
 pub struct MovedLines {
     /// The number of the first of these lines.
@@ -159,6 +159,19 @@ impl Piece {
             end_moved: as_stored(end),
             has_last_moved: last_width.is_some(),
             last_width: last_width.map_or(self.last_width, as_stored),
+            ..self
+        }
+    }
+
+    /// Returns the same piece without a number of blanks of its first line, and of its last line if it has several.
+    pub fn narrowed(self, first: usize, last: usize) -> Piece {
+        let width = self.width().saturating_sub(first);
+        let last_width = self
+            .last_width()
+            .map_or(ONE_LINE, |width| as_stored(width.saturating_sub(last)));
+        Piece {
+            width: as_stored(width),
+            last_width,
             ..self
         }
     }

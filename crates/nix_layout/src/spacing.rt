@@ -1,5 +1,6 @@
 //! The white space between two children of a node: one table, indexed by the kinds of the node and of the two children.
 
+use crate::frame::{Frame, Place};
 use crate::piece::Level;
 use rnix::SyntaxKind;
 
@@ -18,7 +19,7 @@ pub struct Spacing {
     pub keeps_break: bool,
     /// Whether an empty line of the old text is kept.
     pub keeps_empty: bool,
-    /// Whether an opening bracket or keyword precedes.
+    /// Whether an opening bracket or keyword, `=` or `:` precedes.
     pub opens: bool,
     /// Whether a closing bracket or keyword follows.
     pub closes: bool,
@@ -34,6 +35,18 @@ pub struct Child {
     pub is_empty: bool,
     /// Whether it is a function whose parameter is a name.
     pub is_named_lambda: bool,
+    /// Whether it is a set or a list with something inside or a string in `''` with several lines, perhaps after a `with`.
+    pub is_absorbed: bool,
+    /// Whether it has a line for each of its elements, however short they are.
+    pub is_expanded: bool,
+    /// Whether it is a list of few simple elements before the last argument of a call. It is broken in place of the call only if it has several lines anyway.
+    pub is_short: bool,
+    /// Whether it is an operation after `=` that begins with a set, a list or a string in `''`.
+    pub is_hung: bool,
+    /// Whether it is a call whose last two arguments are lists.
+    pub is_paired: bool,
+    /// Whether it is a call of simple parts, which is always on one line.
+    pub is_plain: bool,
 }
 
 // No white space.
@@ -121,25 +134,36 @@ fn inner(spacing: Spacing) -> Spacing {
     }
 }
 
+// Returns the white space between empty brackets, or those that hold comments alone. The brackets of a value may be on two lines.
+fn between_brackets(place: Place) -> Spacing {
+    let spacing = Spacing {
+        keeps_break: place == Place::Value,
+        ..SPACED
+    };
+    opening(closing(keeping_empty(spacing)))
+}
+
 // Returns the white space between two children of a set or a list.
-fn bracketed(before: SyntaxKind, next: SyntaxKind) -> Spacing {
+fn bracketed(place: Place, before: SyntaxKind, next: SyntaxKind) -> Spacing {
+    let line = keeping_empty(keeping_break(LINE));
     match (before, next) {
         (SyntaxKind::TOKEN_REC | SyntaxKind::TOKEN_LET, _) => SPACED,
-        (SyntaxKind::TOKEN_L_BRACE, SyntaxKind::TOKEN_R_BRACE) => closing(SPACED),
-        (SyntaxKind::TOKEN_L_BRACK, SyntaxKind::TOKEN_R_BRACK) => closing(SPACED),
-        (SyntaxKind::TOKEN_L_BRACE | SyntaxKind::TOKEN_L_BRACK, _) => opening(keeping_break(LINE)),
-        (_, SyntaxKind::TOKEN_R_BRACE | SyntaxKind::TOKEN_R_BRACK) => closing(keeping_break(LINE)),
-        _ => keeping_empty(keeping_break(LINE)),
+        (SyntaxKind::TOKEN_L_BRACE, SyntaxKind::TOKEN_R_BRACE)
+        | (SyntaxKind::TOKEN_L_BRACK, SyntaxKind::TOKEN_R_BRACK) => between_brackets(place),
+        (SyntaxKind::TOKEN_L_BRACE | SyntaxKind::TOKEN_L_BRACK, _) => opening(line),
+        (_, SyntaxKind::TOKEN_R_BRACE | SyntaxKind::TOKEN_R_BRACK) => closing(line),
+        _ => line,
     }
 }
 
 // Returns the white space between two children of a `let`.
 fn in_let(before: SyntaxKind, next: SyntaxKind) -> Spacing {
+    let line = keeping_empty(hard(LINE));
     match (before, next) {
-        (_, SyntaxKind::TOKEN_IN) => closing(hard(LINE)),
-        (SyntaxKind::TOKEN_LET, _) => opening(hard(LINE)),
-        (SyntaxKind::TOKEN_IN, _) => level(opening(hard(LINE))),
-        _ => keeping_empty(hard(LINE)),
+        (_, SyntaxKind::TOKEN_IN) => closing(line),
+        (SyntaxKind::TOKEN_LET, _) => opening(line),
+        (SyntaxKind::TOKEN_IN, _) => level(opening(line)),
+        _ => line,
     }
 }
 
@@ -164,25 +188,29 @@ fn in_conditional(before: SyntaxKind, next: SyntaxKind) -> Spacing {
 }
 
 // Returns the white space between two children of a function.
-fn in_lambda(next: Child) -> Spacing {
+fn in_lambda(names: usize, next: Child) -> Spacing {
+    let body = keeping_empty(level(opening(LINE)));
     if next.kind == SyntaxKind::TOKEN_COLON {
         GLUED
-    } else if next.is_named_lambda {
-        SPACED
+    } else if next.is_named_lambda && names > 0 {
+        level(opening(SPACED))
+    } else if names > 2 && !next.is_absorbed {
+        hard(body)
     } else {
-        keeping_empty(level(LINE))
+        body
     }
 }
 
 // Returns the white space between two children of a pattern.
 fn in_pattern(before: SyntaxKind, next: SyntaxKind) -> Spacing {
+    let line = keeping_empty(keeping_break(LINE));
     match (before, next) {
-        (SyntaxKind::TOKEN_L_BRACE, SyntaxKind::TOKEN_R_BRACE) => closing(SPACED),
+        (SyntaxKind::TOKEN_L_BRACE, SyntaxKind::TOKEN_R_BRACE) => opening(closing(SPACED)),
         (_, SyntaxKind::TOKEN_COMMA | SyntaxKind::NODE_PAT_BIND) => GLUED,
         (SyntaxKind::NODE_PAT_BIND, _) => GLUED,
-        (SyntaxKind::TOKEN_L_BRACE, _) => opening(keeping_break(LINE)),
-        (_, SyntaxKind::TOKEN_R_BRACE) => closing(keeping_break(LINE)),
-        _ => keeping_break(LINE),
+        (SyntaxKind::TOKEN_L_BRACE, _) => opening(line),
+        (_, SyntaxKind::TOKEN_R_BRACE) => closing(line),
+        _ => line,
     }
 }
 
@@ -197,19 +225,27 @@ fn in_inherit(before: SyntaxKind, next: SyntaxKind) -> Spacing {
     }
 }
 
-// Returns the white space between two children of an entry.
-fn in_entry(before: SyntaxKind, next: Child) -> Spacing {
-    match next.kind {
-        SyntaxKind::TOKEN_SEMICOLON => GLUED,
-        SyntaxKind::TOKEN_ASSIGN
-        | SyntaxKind::NODE_STRING
+// Returns the white space before the value of an entry.
+fn before_value(value: Child) -> Spacing {
+    match value.kind {
+        SyntaxKind::NODE_STRING
         | SyntaxKind::NODE_PATH_ABS
         | SyntaxKind::NODE_PATH_HOME
         | SyntaxKind::NODE_PATH_REL
         | SyntaxKind::NODE_PATH_SEARCH => SPACED,
-        SyntaxKind::NODE_ATTR_SET | SyntaxKind::NODE_LIST if next.is_empty => SPACED,
-        _ if before == SyntaxKind::TOKEN_ASSIGN => opening(LINE),
-        _ => SPACED,
+        _ if value.is_empty || value.is_hung || value.is_plain => SPACED,
+        _ => LINE,
+    }
+}
+
+// Returns the white space between two children of an entry.
+fn in_entry(before: SyntaxKind, next: Child) -> Spacing {
+    if before == SyntaxKind::TOKEN_ASSIGN {
+        opening(before_value(next))
+    } else if next.kind == SyntaxKind::TOKEN_SEMICOLON {
+        GLUED
+    } else {
+        SPACED
     }
 }
 
@@ -237,24 +273,29 @@ fn in_dynamic(before: SyntaxKind, next: SyntaxKind) -> Spacing {
     }
 }
 
-// Returns the white space between two children of parentheses.
-fn in_paren(before: SyntaxKind) -> Spacing {
-    if before == SyntaxKind::TOKEN_L_PAREN {
-        opening(SOFT)
-    } else {
+// Returns the white space between two children of parentheses. A call begins on their line, unless they are the last argument of a call or a value.
+fn in_paren(place: Place, before: SyntaxKind, next: SyntaxKind) -> Spacing {
+    let is_apart = matches!(place, Place::LastArgument | Place::Value);
+    if before != SyntaxKind::TOKEN_L_PAREN {
         closing(SOFT)
+    } else if next == SyntaxKind::NODE_APPLY && !is_apart {
+        opening(GLUED)
+    } else {
+        opening(SOFT)
     }
 }
 
 // Returns the white space between two children of an operation.
-fn in_operation(next: SyntaxKind) -> Spacing {
-    if next < SyntaxKind::NODE_APPLY {
+fn in_operation(is_hung: bool, next: SyntaxKind) -> Spacing {
+    if next >= SyntaxKind::NODE_APPLY {
+        SPACED
+    } else if is_hung {
+        level(LINE)
+    } else {
         Spacing {
             level: Level::Operator,
             ..LINE
         }
-    } else {
-        SPACED
     }
 }
 
@@ -275,8 +316,8 @@ pub fn distant(spacing: Spacing) -> Spacing {
     }
 }
 
-/// Returns the same white space, with a line feed if one is allowed.
-pub fn broken(spacing: Spacing) -> Spacing {
+// Returns the same white space, with a line feed if one is allowed.
+fn broken(spacing: Spacing) -> Spacing {
     Spacing {
         is_hard: spacing.can_break,
         ..spacing
@@ -293,13 +334,15 @@ pub fn around_text() -> Spacing {
     keeping_empty(level(GLUED))
 }
 
-/// Returns the white space between a child of a node and the next one.
-pub fn spacing_in(parent: SyntaxKind, before: SyntaxKind, next: Child) -> Spacing {
-    match parent {
+// Returns the white space between a child of a node and the next one, if the node is not expanded.
+fn unexpanded(frame: &Frame, before: SyntaxKind, next: Child) -> Spacing {
+    match frame.kind {
         SyntaxKind::NODE_ROOT => around_text(),
-        SyntaxKind::NODE_LIST | SyntaxKind::NODE_ATTR_SET => bracketed(before, next.kind),
+        SyntaxKind::NODE_LIST | SyntaxKind::NODE_ATTR_SET => {
+            bracketed(frame.place, before, next.kind)
+        }
         SyntaxKind::NODE_LEGACY_LET if before == SyntaxKind::TOKEN_LET => SPACED,
-        SyntaxKind::NODE_LEGACY_LET => hard(bracketed(before, next.kind)),
+        SyntaxKind::NODE_LEGACY_LET => hard(bracketed(frame.place, before, next.kind)),
         SyntaxKind::NODE_LET_IN => in_let(before, next.kind),
         SyntaxKind::NODE_WITH => in_prefix(before, next.kind),
         SyntaxKind::NODE_ASSERT if before == SyntaxKind::TOKEN_SEMICOLON => {
@@ -307,16 +350,28 @@ pub fn spacing_in(parent: SyntaxKind, before: SyntaxKind, next: Child) -> Spacin
         }
         SyntaxKind::NODE_ASSERT => in_prefix(before, next.kind),
         SyntaxKind::NODE_IF_ELSE => in_conditional(before, next.kind),
-        SyntaxKind::NODE_LAMBDA => in_lambda(next),
+        SyntaxKind::NODE_LAMBDA => in_lambda(frame.names, next),
         SyntaxKind::NODE_PATTERN => in_pattern(before, next.kind),
         SyntaxKind::NODE_PAT_ENTRY | SyntaxKind::NODE_HAS_ATTR => SPACED,
         SyntaxKind::NODE_INHERIT => in_inherit(before, next.kind),
         SyntaxKind::NODE_ATTRPATH_VALUE => in_entry(before, next),
         SyntaxKind::NODE_SELECT => in_selection(before, next.kind),
         SyntaxKind::NODE_DYNAMIC => in_dynamic(before, next.kind),
+        SyntaxKind::NODE_APPLY if frame.is_plain => SPACED,
         SyntaxKind::NODE_APPLY => LINE,
-        SyntaxKind::NODE_BIN_OP => in_operation(next.kind),
-        SyntaxKind::NODE_PAREN => in_paren(before),
+        SyntaxKind::NODE_BIN_OP => in_operation(frame.is_hung, next.kind),
+        SyntaxKind::NODE_PAREN => in_paren(frame.place, before, next.kind),
         _ => GLUED,
+    }
+}
+
+/// Returns the white space between a child of a node and the next one. A conditional after `else` is broken, as the one around it.
+pub fn spacing_in(frame: &Frame, before: SyntaxKind, next: Child) -> Spacing {
+    let spacing = unexpanded(frame, before, next);
+    let is_chained = frame.kind == SyntaxKind::NODE_IF_ELSE && !frame.is_own;
+    if frame.is_expanded || (is_chained && !spacing.is_inner) {
+        broken(spacing)
+    } else {
+        spacing
     }
 }

@@ -3,3 +3,7 @@ pub mod ForeignExamples
 pub mod WordExamples
 pub mod NumberLemmas
 pub mod LintLemmas
+pub mod UnusedLemmas
+pub mod IgnoredLemmas
+pub mod OpenLemmas
+pub mod ReportedLemmas

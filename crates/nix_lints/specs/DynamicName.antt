@@ -37,6 +37,6 @@ is_let_or_inherit_in (Some parent) name =
 abbrev pub is_let_or_inherit : Located → Bool
 is_let_or_inherit name = is_let_or_inherit_in (parent_of name) name
 
--- the finding on a name in `${ }`, if it is computed and Nix does not allow that
+-- the finding on a name, if it is computed and Nix does not allow that
 abbrev pub dynamic_name : Located → Option Found
 dynamic_name name = found_if (is_let_or_inherit name && is_none (static_name name)) code.DynamicName name

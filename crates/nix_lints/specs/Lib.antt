@@ -6,7 +6,12 @@ pub mod Parentheses
 pub mod ManualInherit
 pub mod LargeInteger
 pub mod UnboundNames
+pub mod UnusedNames
 pub mod DynamicName
+pub mod NeedlessWith
+pub mod RepeatedArgument
 pub mod Nodes
 pub mod Lints
 pub mod Words
+pub mod Ignored
+pub mod Items

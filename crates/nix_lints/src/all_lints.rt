@@ -8,7 +8,7 @@ ghost use Rattle.nix_lints.specs.Lints.{space_found, repetition_found, AreLints}
 
 use crate::finding::{Finding, Reason};
 use crate::foreign::{ForeignSpace, foreign_spaces};
-use crate::names::add_unbound_names;
+use crate::names::add_at_names;
 use crate::nodes::add_at_nodes;
 use nix_attributes::{Repeated, repeated_attributes};
 use nix_diagnostics::{Code, Replacement};
@@ -76,8 +76,8 @@ pub fn lints(alloc: Global, root: &SyntaxNode<'_>) -> Result<Vec<Finding>, Alloc
     let mut found = Vec::new(alloc);
     add_spaces(alloc, root, &mut found)?;
     add_repetitions(alloc, root, &mut found)?;
-    add_unbound_names(alloc, root, &mut found)?;
-    add_at_nodes(alloc, root, &mut found)?;
+    let places = add_at_names(alloc, root, &mut found)?;
+    add_at_nodes(alloc, root, &places, &mut found)?;
     found.sort_by_key(
         |finding: &Finding| -> usize
             ensures { result ≡ finding.now.range.start }

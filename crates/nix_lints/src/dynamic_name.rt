@@ -1,10 +1,9 @@
 //! Computed names in a `let` or an `inherit`, which Nix does not allow.
 
-ghost use Rattle.std.specs.Prelude.{◌≡◌, option_map, is_none, IfOk};
-ghost use Rattle.rnix.specs.AttrName.{static_name};
+ghost use Rattle.std.specs.Prelude.{◌≡◌, option_map, is_none, true, IfOk};
+ghost use Rattle.rnix.specs.{AttrName.static_name, NodeKinds.is_attr};
 ghost use Rattle.rnix.specs.Sums.{attr_node};
 ghost use Rattle.rnix_green.specs.Tree.{item_of};
-ghost use Rattle.rnix_kinds.specs.declared.kinds.SyntaxKind.TheVariants as k;
 ghost use Rattle.nix_lints.specs.Found.{found_of};
 ghost use Rattle.nix_lints.specs.DynamicName.{is_same_node, is_kind_around, is_path_of_let, is_let_or_inherit, dynamic_name};
 
@@ -68,9 +67,9 @@ fn is_computed(alloc: Global, name: SyntaxNode<'_>) -> Result<bool, AllocError>
     }
 }
 
-/// Returns the finding on a name in `${ }`, if it is computed and Nix does not allow that.
+/// Returns the finding on a name, in `${ }` or a string, if it is computed and Nix does not allow that.
 pub fn dynamic_name(alloc: Global, name: &SyntaxNode<'_>) -> Result<Option<Finding>, AllocError>
-    requires { (item_of name.now).kind ≡ k.NODE_DYNAMIC }
+    requires { is_attr (item_of name.now).kind ≡ true }
     ensures { IfOk result (λ found. option_map found_of found ≡ dynamic_name name.now) }
 {
     if !is_let_or_inherit(name) {

@@ -1,6 +1,7 @@
 pub mod AgainCalls
 pub mod AllStrings
 pub mod Answers
+pub mod Codes
 pub mod CompactElements
 pub mod Diagnostics
 pub mod Elements

@@ -7,6 +7,7 @@ mod again;
 mod all_strings;
 mod analysis;
 mod answers;
+mod codes;
 mod compact;
 mod diagnostics;
 mod elements;
@@ -26,7 +27,7 @@ mod tree;
 /// Returns the version of this interface. It changes whenever a function, a struct or the number of a kind changes.
 #[unsafe(no_mangle)]
 pub extern "C" fn rnix_version() -> u32
-    ensures { result ≡ 6 }
+    ensures { result ≡ 7 }
 {
-    6
+    7
 }

@@ -1,7 +1,6 @@
 //! Comments in all gaps of expressions of all kinds.
 
-use crate::digests::{COMMENTS_DIGESTS, START};
-use crate::formatted::{add_formatted, filled};
+use crate::formatted::{check_repeated, filled};
 use std::alloc::{AllocError, Global};
 use std::process::Abort;
 use std::test::Fail;
@@ -105,23 +104,21 @@ fn widened(alloc: Global, text: &str) -> Result<String, AllocError> {
     Ok(wide)
 }
 
-// Returns the digest of an expression with each of the comments in all gaps, each time also with the long name.
-fn digest_of(rt: &(impl Abort + AllocGlobal), place: &str) -> Result<u64, AllocError> {
-    let mut digest = START;
+// Checks an expression with each of the comments in all gaps, each time also with the long name.
+fn check_comments(rt: &(impl Abort + AllocGlobal), place: &str) -> Result<(), AllocError> {
     for gap in GAPS {
         let text = filled(rt.alloc(), place, gap)?;
-        digest = add_formatted(rt, text.as_str(), digest)?;
+        check_repeated(rt, text.as_str())?;
         let wide = widened(rt.alloc(), text.as_str())?;
-        digest = add_formatted(rt, wide.as_str(), digest)?;
+        check_repeated(rt, wide.as_str())?;
     }
-    Ok(digest)
+    Ok(())
 }
 
 #[test]
-fn comments_in_all_gaps_are_formatted_as_stored(rt: HostRuntime) -> Result<(), Fail> {
-    for (place, stored) in PLACES.iter().zip(&COMMENTS_DIGESTS) {
-        let digest = digest_of(&rt, place)?;
-        assert!(rt; digest == *stored, "{place}: {digest}");
+fn comments_in_all_gaps_stay_the_same(rt: HostRuntime) -> Result<(), Fail> {
+    for place in PLACES {
+        check_comments(&rt, place)?;
     }
     Ok(())
 }

@@ -1,9 +1,6 @@
 //! Texts whose groups just fit on their lines, or just do not, and texts of few items.
 
-use crate::digests::{
-    NAMED_DIGESTS, NESTED_DIGESTS, PARENTHESES_DIGESTS, QUOTED_DIGESTS, START, TEXTS_DIGEST,
-};
-use crate::formatted::{add_formatted, filled};
+use crate::formatted::{check_repeated, filled};
 use std::alloc::{AllocError, Global};
 use std::process::Abort;
 use std::test::Fail;
@@ -12,7 +9,7 @@ use std::test::Fail;
 const LEVELS: usize = 37;
 
 // Expressions in which `%` stands for a name, whose length varies.
-const NAMED: [&str; 23] = [
+const NAMED: [&str; 29] = [
     "{ a = %; }",
     "{ % = a; }",
     "[ a % b ]",
@@ -35,6 +32,12 @@ const NAMED: [&str; 23] = [
     "{ a.${%}.b = a.b or %; }",
     "{ a = (with %; { b = c; }); }",
     "x: y: % [ a\nb ] c",
+    "f \"${ % } ${ a }\" [ b ] c",
+    "f ./a/${ % }/b [ c d ] [ e ]",
+    "{ a = \"${ b }\n${ % }\" + c { d = e; }; }",
+    "{ a = ''\n  ${ % } b ${ c }'' { d = e; }; }",
+    "{ a = [ b ] ++ % ++ [ c d ]; }",
+    "[ (f [ a b ] [ c % ]) (f (a: b: %) { }) (a (b: with c; [ d % ])) ]",
     "{ a = { % = b; } ''\n  c\n''; }",
 ];
 
@@ -74,7 +77,7 @@ const NESTED: [&str; 9] = [
 ];
 
 // Texts with items that stay apart, with comments in all places, and with little else.
-const TEXTS: [&str; 58] = [
+const TEXTS: [&str; 61] = [
     "a - ./b",
     "a - /b",
     "a - ~/b",
@@ -133,6 +136,9 @@ const TEXTS: [&str; 58] = [
     "[\ta\tb\r\n\t]\r\n",
     "{ a = ''\r\n\tb\r\n'' ; }",
     "{ a = ''\n\tb\n  c\n\t'' + \"\t\r\n\"; }",
+    "\"${ a}${b }${ c }${\nd }${ /* e */ f # g\n }\"",
+    "''\n  a ${ b }\n  ${ ''\n  c ${ d }\n '' }\n''",
+    "./${ a }/b",
 ];
 
 // A letter, `count` times.
@@ -144,23 +150,20 @@ fn repeated(alloc: Global, letter: char, count: usize) -> Result<String, AllocEr
     Ok(text)
 }
 
-// Compares the digest of each expression, with words of 20 lengths from `least` on, with the stored one.
+// Checks each expression with words of 20 lengths from `least` on.
 fn check_widths(
     rt: &(impl Abort + AllocGlobal),
     outers: &[&str],
     letter: char,
     least: usize,
-    stored: &[u64],
 ) -> Result<(), AllocError> {
-    for (outer, stored) in outers.iter().zip(stored) {
-        let mut digest = START;
+    for outer in outers {
         for more in 0usize..20 {
             let count = least.saturating_add(more);
             let word = repeated(rt.alloc(), letter, count)?;
             let text = filled(rt.alloc(), outer, word.as_str())?;
-            digest = add_formatted(rt, text.as_str(), digest)?;
+            check_repeated(rt, text.as_str())?;
         }
-        assert!(rt; digest == *stored, "{outer}: {digest}");
     }
     Ok(())
 }
@@ -174,50 +177,46 @@ fn nested(alloc: Global, outer: &str, inner: &str, levels: usize) -> Result<Stri
     Ok(text)
 }
 
-// Returns the digest of an expression that is nested, with five different numbers of levels.
-fn digest_of_levels(rt: &(impl Abort + AllocGlobal), outer: &str) -> Result<u64, AllocError> {
+// Checks an expression that is nested, with five different numbers of levels.
+fn check_levels(rt: &(impl Abort + AllocGlobal), outer: &str) -> Result<(), AllocError> {
     let mut text = nested(
         rt.alloc(),
         outer,
         "f ''\n  a\n   b\n'' [ c (d: e) ]",
         LEVELS,
     )?;
-    let mut digest = START;
     for _ in 0..5 {
         text = filled(rt.alloc(), outer, text.as_str())?;
-        digest = add_formatted(rt, text.as_str(), digest)?;
-    }
-    Ok(digest)
-}
-
-#[test]
-fn words_around_the_end_of_a_line_are_formatted_as_stored(rt: HostRuntime) -> Result<(), Fail> {
-    check_widths(&rt, &NAMED, 'a', 82, &NAMED_DIGESTS)?;
-    check_widths(&rt, &QUOTED, 'ä', 82, &QUOTED_DIGESTS)?;
-    Ok(())
-}
-
-#[test]
-fn parentheses_of_half_a_line_are_formatted_as_stored(rt: HostRuntime) -> Result<(), Fail> {
-    check_widths(&rt, &PARENTHESES, 'a', 25, &PARENTHESES_DIGESTS)?;
-    Ok(())
-}
-
-#[test]
-fn deep_levels_are_formatted_as_stored(rt: HostRuntime) -> Result<(), Fail> {
-    for (outer, stored) in NESTED.iter().zip(&NESTED_DIGESTS) {
-        let digest = digest_of_levels(&rt, outer)?;
-        assert!(rt; digest == *stored, "{outer}: {digest}");
+        check_repeated(rt, text.as_str())?;
     }
     Ok(())
 }
 
 #[test]
-fn comments_and_small_texts_are_formatted_as_stored(rt: HostRuntime) -> Result<(), Fail> {
-    let mut digest = START;
+fn words_around_the_end_of_a_line_stay_the_same(rt: HostRuntime) -> Result<(), Fail> {
+    check_widths(&rt, &NAMED, 'a', 82)?;
+    check_widths(&rt, &QUOTED, 'ä', 82)?;
+    Ok(())
+}
+
+#[test]
+fn parentheses_of_half_a_line_stay_the_same(rt: HostRuntime) -> Result<(), Fail> {
+    check_widths(&rt, &PARENTHESES, 'a', 25)?;
+    Ok(())
+}
+
+#[test]
+fn deep_levels_stay_the_same(rt: HostRuntime) -> Result<(), Fail> {
+    for outer in NESTED {
+        check_levels(&rt, outer)?;
+    }
+    Ok(())
+}
+
+#[test]
+fn comments_and_small_texts_stay_the_same(rt: HostRuntime) -> Result<(), Fail> {
     for text in TEXTS {
-        digest = add_formatted(&rt, text, digest)?;
+        check_repeated(&rt, text)?;
     }
-    assert!(rt; digest == TEXTS_DIGEST, "{digest}");
     Ok(())
 }

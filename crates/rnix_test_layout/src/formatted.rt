@@ -1,6 +1,5 @@
-//! Formatted texts, and their digests.
+//! Formatted texts, and whether they stay the same.
 
-use crate::digests::PRIME;
 use nix_layout::{NewText, styled};
 use rnix::Root;
 use std::alloc::{AllocError, Global};
@@ -28,28 +27,15 @@ pub fn styled_text(alloc: Global, text: &str) -> Result<Option<NewText>, AllocEr
     Ok(Some(styled(alloc, text, &parse.syntax())?))
 }
 
-// Adds a text to a digest (FNV-1a of the bytes of all texts, each with a byte 0 after it).
-fn with_text(digest: u64, text: &str) -> u64 {
-    let mut digest = digest;
-    for byte in text.bytes() {
-        digest = (digest ^ u64::from(byte)).wrapping_mul(PRIME);
-    }
-    digest.wrapping_mul(PRIME)
-}
-
-/// Adds a formatted text to a digest, unless the text has errors. Checks that it stays the same when it is formatted again.
-pub fn add_formatted(
-    rt: &(impl Abort + AllocGlobal),
-    text: &str,
-    digest: u64,
-) -> Result<u64, AllocError> {
+/// Checks that a formatted text stays the same when it is formatted again, and is known to do so, unless the text has errors.
+pub fn check_repeated(rt: &(impl Abort + AllocGlobal), text: &str) -> Result<(), AllocError> {
     let Some(made) = styled_text(rt.alloc(), text)? else {
-        return Ok(digest);
+        return Ok(());
     };
     let again = styled_text(rt.alloc(), made.text.as_str())?;
     assert!(rt;
         made.is_stable && again.is_some_and(|again| again.text.as_str() == made.text.as_str()),
         "{text}"
     );
-    Ok(with_text(digest, made.text.as_str()))
+    Ok(())
 }

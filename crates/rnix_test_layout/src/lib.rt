@@ -1,10 +1,8 @@
-//! Tests of the layout: texts of many kinds are formatted as their stored digests say, and stay the same when they are formatted again.
+//! Tests of the layout: formatted texts of many kinds stay the same when they are formatted again. How texts are formatted is tested by bench/layout.
 #![tactic(auto)]
 
 #[cfg(test)]
 mod comments;
-#[cfg(test)]
-mod digests;
 #[cfg(test)]
 mod edges;
 #[cfg(test)]

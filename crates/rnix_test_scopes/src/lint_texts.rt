@@ -20,7 +20,7 @@ fn is_found(alloc: Global, case: &Case) -> Result<bool, AllocError> {
     Ok(found.len() == case.1.len())
 }
 
-const TEXTS: [Case; 24] = [
+const TEXTS: [Case; 34] = [
     ("x: let a = x; in a.${x}", &[]),
     ("{ version = 1.2.3; }", &[("called-data", 12, 17)]),
     ("[ (\"a\" 1) ]", &[("called-data", 3, 8)]),
@@ -79,6 +79,28 @@ const TEXTS: [Case; 24] = [
             ("repeated-attribute", 9, 10),
             ("needless-parentheses", 13, 16),
         ],
+    ),
+    (
+        "{ a, b }: let c = a; in 1",
+        &[("unused-name", 5, 6), ("unused-name", 14, 15)],
+    ),
+    ("args@{ a }: _b: rec { c = args; }", &[]),
+    ("x: with x; { a = 1; }", &[("needless-with", 3, 21)]),
+    ("x: with x; with x; y", &[]),
+    (
+        "x: with x; let y = 1; in [ y map ]",
+        &[("needless-with", 3, 34)],
+    ),
+    (
+        "x: y: with (with x; z); y",
+        &[("needless-with", 6, 25), ("needless-parentheses", 11, 22)],
+    ),
+    ("a@{ a }: a", &[("repeated-argument", 0, 2)]),
+    ("{ a, b ? a }@b: b", &[("repeated-argument", 12, 14)]),
+    ("a@{ b }: b: a", &[("unused-name", 9, 10)]),
+    (
+        "x: let \"${x}\" = 1; in { \"${x}\" = 2; inherit (x) \"${x}\"; }",
+        &[("dynamic-name", 7, 13), ("dynamic-name", 48, 54)],
     ),
 ];
 

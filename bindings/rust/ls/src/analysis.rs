@@ -13,7 +13,7 @@ use std::cell::OnceCell;
 pub struct Analysis {
     /// The tree and the errors.
     pub parse: Parse<Root>,
-    // Both come from one more parse: an editor shows the diagnostics of each text, and nearly always asks about its names.
+    // Both come from one call: an editor shows the diagnostics of each text, and nearly always asks about its names.
     found: OnceCell<(Resolution, Vec<Diagnostic>)>,
 }
 
@@ -122,6 +122,12 @@ impl Analysis {
         }
     }
 
+    /// Returns the number of the binding that is written at a range.
+    pub fn binding_at(&self, range: TextRange) -> Option<usize> {
+        let mut bindings = self.names().bindings.iter();
+        bindings.position(|binding| binding.name.text_range() == range)
+    }
+
     /// Returns where a binding is written, in each of its parts.
     pub fn written_at(&self, number: usize) -> Vec<TextRange> {
         let parts = self.names().bindings.iter().filter(|part| part.first == number);
@@ -135,8 +141,8 @@ impl Analysis {
     }
 }
 
-// Returns an expression without the parentheses around it.
-fn without_parens(mut expr: Expr) -> Expr {
+/// Returns an expression without the parentheses around it.
+pub fn without_parens(mut expr: Expr) -> Expr {
     while let Expr::Paren(paren) = &expr {
         match paren.expr() {
             Some(inner) => expr = inner,

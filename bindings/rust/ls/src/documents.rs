@@ -4,12 +4,16 @@ use crate::analysis::Analysis;
 use crate::change::Change;
 use crate::features::delta::Sent;
 use crate::json::Value;
+use crate::paths::real;
 use crate::protocol::{positions_of, uri_of, Failure};
 use crate::text::{Encoding, Text};
-use crate::uri::canonical;
+use crate::uri::{canonical, file_of};
+use crate::workspace::summary::Summary;
 use rnix::{Parse, Root};
 use std::cell::{OnceCell, RefCell};
 use std::collections::HashMap;
+use std::path::{Path, PathBuf};
+use std::rc::Rc;
 
 /// An open document.
 pub struct Document {
@@ -21,6 +25,10 @@ pub struct Document {
     pub text: Text,
     /// The semantic tokens that the client has, maybe those of an earlier version.
     pub sent: RefCell<Option<Sent>>,
+    /// The path of the file without links, if it is one.
+    pub file: Option<PathBuf>,
+    /// What the text gives to other files, once it has been looked at.
+    pub summary: OnceCell<Rc<Summary>>,
     // Whether the text has changed since its diagnostics were sent.
     is_new: bool,
     // Whether a change could not be applied, so that the client has another text; and whether the client knows that.
@@ -35,6 +43,8 @@ pub struct Document {
 #[derive(Default)]
 pub struct Documents {
     open: HashMap<String, Document>,
+    // The names of the documents of files, by their paths without links.
+    files: HashMap<PathBuf, String>,
 }
 
 impl Document {
@@ -49,6 +59,11 @@ impl Document {
             None => Analysis::new(text),
         });
         analysis.as_ref().map_err(Failure::clone)
+    }
+
+    /// Returns whether the text is not known.
+    pub fn is_lost(&self) -> bool {
+        self.is_lost
     }
 
     // Applies one change of the text: a new text, or one for a range.
@@ -90,6 +105,7 @@ impl Document {
 
     // Forgets what is known of the text.
     fn forget(&mut self) -> Option<Analysis> {
+        self.summary.take();
         self.analysis.take()?.ok()
     }
 
@@ -118,8 +134,13 @@ impl Documents {
             }
             return Err(Failure::params("textDocument.text is missing"));
         };
+        let file = file_of(&uri).map(|path| real(&path));
+        if let Some(file) = &file {
+            self.files.insert(file.clone(), name.clone());
+        }
         let document = Document {
             uri,
+            file,
             version: params.at(&["textDocument", "version"]).cloned(),
             text: Text::new(text.to_owned(), encoding),
             sent: RefCell::default(),
@@ -128,6 +149,7 @@ impl Documents {
             is_told: false,
             earlier: RefCell::default(),
             analysis: OnceCell::new(),
+            summary: OnceCell::new(),
         };
         self.open.insert(name, document);
         Ok(())
@@ -181,7 +203,9 @@ impl Documents {
     /// # Errors
     /// It is not open.
     pub fn close(&mut self, params: &Value) -> Result<String, Failure> {
-        let document = self.open.remove(&canonical(uri_of(params)?)).ok_or_else(not_open)?;
+        let name = canonical(uri_of(params)?);
+        let document = self.open.remove(&name).ok_or_else(not_open)?;
+        self.files.retain(|_, other| *other != name);
         Ok(document.uri)
     }
 
@@ -195,6 +219,26 @@ impl Documents {
             return Err(lost(&document.uri));
         }
         Ok(document)
+    }
+
+    /// Has what settings decide be found again: the diagnostics of all documents, except of those that are lost, and the files that they call.
+    pub fn renew_all(&mut self) {
+        for document in self.open.values_mut() {
+            document.is_new = !document.is_lost;
+            document.summary.take();
+        }
+    }
+
+    /// Returns the document of a file, by its path without links.
+    pub fn of_file(&self, file: &Path) -> Option<&Document> {
+        self.open.get(self.files.get(file)?)
+    }
+
+    /// Returns the documents whose texts are known, in the order of their names.
+    pub fn known(&self) -> impl Iterator<Item = &Document> {
+        let mut known: Vec<&Document> = self.open.values().filter(|document| !document.is_lost).collect();
+        known.sort_by_key(|document| &document.uri);
+        known.into_iter()
     }
 
     /// Returns a document whose diagnostics are to be sent, once for each change.

@@ -1,20 +1,29 @@
 //! A language server for Nix: `rnix-ls` speaks the Language Server Protocol over standard input and output.
 
 mod analysis;
+mod calls;
 mod change;
 mod client;
 mod documents;
+mod edits;
 mod features;
 mod json;
+mod options;
+mod outgoing;
+mod paths;
+mod process;
 mod protocol;
 mod queue;
 #[cfg(test)]
 mod random;
 mod request;
 mod server;
+mod settings;
+mod sources;
 mod text;
 mod transport;
 mod uri;
+mod workspace;
 
 use std::io::{self, BufWriter, Write};
 use std::process::ExitCode;

@@ -3,10 +3,14 @@
 use crate::analysis::{Analysis, Name};
 use crate::client::Client;
 use crate::documents::Document;
+use crate::edits::{self, Edit};
 use crate::json::{array, object, Value};
 use crate::protocol::{location, position_of, range, size, Failure};
+use crate::settings::Settings;
+use crate::sources::{Part, Source, Sources};
 use crate::text::Text;
-use rnix::{TextRange, TextSize};
+use crate::workspace::Workspace;
+use rnix::{SyntaxNode, TextRange, TextSize};
 
 /// A request about a document.
 pub struct Request<'a> {
@@ -16,8 +20,14 @@ pub struct Request<'a> {
     pub analysis: &'a Analysis,
     /// What the client can do.
     pub client: &'a Client,
+    /// What the user has set.
+    pub settings: &'a Settings,
     /// The parameters.
     pub params: &'a Value,
+    /// The other files.
+    pub sources: &'a Sources<'a>,
+    /// What is known of the files of the workspace.
+    pub workspace: &'a Workspace,
 }
 
 impl Request<'_> {
@@ -58,12 +68,29 @@ impl Request<'_> {
         self.text().line_at(offset.into()) + 1
     }
 
+    /// Returns a node of the document.
+    pub fn part(&self, node: SyntaxNode) -> Part<'_> {
+        Source::Open(self.document).part(node)
+    }
+
+    /// Returns the line of a node in words, with the file if that is another one.
+    pub fn line_of(&self, part: &Part) -> String {
+        let line = part.source.text().line_at(part.node.text_range().start().into()) + 1;
+        if part.source.uri() == self.document.uri {
+            return format!("line {line}");
+        }
+        let file = part.source.path().unwrap_or_default();
+        format!("line {line} of {}", self.workspace.inside(&file).display())
+    }
+
+    /// Returns edits of the document.
+    pub fn edits(&self, edits: &[Edit]) -> Value {
+        array(edits.iter().map(|(place, new)| edits::shown(self.text(), *place, new)))
+    }
+
     /// Returns edits of the document as a workspace edit.
-    pub fn workspace_edit(&self, edits: &[(TextRange, String)]) -> Value {
-        let edit = |(place, new): &(TextRange, String)| {
-            object([("range", self.range(*place)), ("newText", new.as_str().into())])
-        };
-        let edits = array(edits.iter().map(edit));
+    pub fn workspace_edit(&self, edits: &[Edit]) -> Value {
+        let edits = self.edits(edits);
         let uri = self.document.uri.as_str();
         if !self.client.takes_versions {
             let changes = Value::Object(vec![(uri.to_owned().into(), edits)]);

@@ -1,17 +1,30 @@
 //! The main loop of the server: it reads messages one by one, and responds to requests in their order.
 
+mod configuration;
+mod files;
+
 use crate::client::Client;
 use crate::documents::{lost, Documents};
 use crate::features::{
-    actions, completion, diagnostics, folding, formatting, hover, links, navigation, rename, selection, symbols, tokens,
+    actions, completion, definition, diagnostics, folding, formatting, hover, links, navigation, rename, selection,
+    symbols, tokens,
 };
 use crate::json::{object, Value};
+use crate::outgoing::{Outgoing, Purpose};
 use crate::protocol::{notification, response, uri_of, Code, Failure, Outcome};
 use crate::queue::{Incoming, Queue};
 use crate::request::Request;
+use crate::settings::Settings;
+use crate::sources::Sources;
 use crate::transport;
+use crate::workspace::Workspace;
+use std::collections::VecDeque;
 use std::io::{self, Read, Write};
 use std::panic::{catch_unwind, AssertUnwindSafe};
+
+/// The types of messages to the client.
+const ERROR: usize = 1;
+const WARNING: usize = 2;
 
 /// Where the server is in its life.
 #[derive(Clone, Copy, PartialEq, Eq)]
@@ -27,6 +40,11 @@ struct Server<W> {
     stage: Stage,
     client: Client,
     documents: Documents,
+    settings: Settings,
+    // What is to be said of the settings.
+    complaints: VecDeque<String>,
+    workspace: Workspace,
+    outgoing: Outgoing,
 }
 
 /// Whether the server goes on, or ends with a status.
@@ -40,7 +58,8 @@ fn feature(method: &str) -> Option<fn(&Request) -> Outcome> {
     Some(match method.strip_prefix("textDocument/")? {
         "codeAction" => actions::actions,
         "completion" => completion::completions,
-        "definition" => navigation::definition,
+        "definition" => definition::definition,
+        "diagnostic" => diagnostics::asked,
         "documentHighlight" => navigation::highlights,
         "documentLink" => links::links,
         "documentSymbol" => symbols::symbols,
@@ -72,15 +91,21 @@ impl<W: Write> Server<W> {
 
     // Tells the client of what went wrong with a notification, which has no answer.
     fn log(&mut self, failure: &Failure) -> io::Result<()> {
-        let params = object([
-            ("type", 1_usize.into()),
-            ("message", format!("rnix-ls: {}", failure.message).into()),
-        ]);
+        self.log_message(ERROR, &failure.message)
+    }
+
+    fn log_message(&mut self, kind: usize, message: &str) -> io::Result<()> {
+        let message = format!("rnix-ls: {message}").into();
+        let params = object([("type", kind.into()), ("message", message)]);
         self.send(&notification("window/logMessage", params))
     }
 
-    // Returns the response to a request about a document.
+    // Returns the response to a request about a document or the workspace.
     fn ask(&self, method: &str, params: &Value) -> Outcome {
+        let sources = Sources::new(&self.documents, self.workspace.search(), self.client.encoding);
+        if let Some(feature) = files::feature(method) {
+            return guarded(|| feature(&self.workspace, &sources, params));
+        }
         let unknown = || Failure::new(Code::MethodNotFound, format!("there is no method {method}"));
         let feature = feature(method).ok_or_else(unknown)?;
         let document = self.documents.get(params)?;
@@ -89,7 +114,10 @@ impl<W: Write> Server<W> {
                 document,
                 analysis: document.analysis()?,
                 client: &self.client,
+                settings: &self.settings,
                 params,
+                sources: &sources,
+                workspace: &self.workspace,
             })
         })
     }
@@ -97,7 +125,27 @@ impl<W: Write> Server<W> {
     fn initialize(&mut self, params: &Value) -> Value {
         self.stage = Stage::Initialized;
         self.client = Client::new(params);
+        self.configure(params.get("initializationOptions").unwrap_or(&Value::Null));
+        self.open_workspace(params);
         self.client.greeting()
+    }
+
+    // Asks the client for what it can be asked for.
+    fn initialized(&mut self) -> io::Result<()> {
+        self.ask_for_settings()?;
+        self.watch_files()
+    }
+
+    // Takes the answer to a request of the server. What answers none is ignored.
+    fn answered(&mut self, id: &Value, answer: &Value) -> io::Result<()> {
+        match self.outgoing.answered(id) {
+            Some(Purpose::Settings) => self.settings_answered(answer),
+            Some(Purpose::WatchFiles) => {
+                self.watching_answered(answer);
+                Ok(())
+            }
+            Some(Purpose::Refresh) | None => Ok(()),
+        }
     }
 
     fn request(&mut self, method: &str, params: &Value) -> Outcome {
@@ -120,10 +168,15 @@ impl<W: Write> Server<W> {
         let encoding = self.client.encoding;
         let outcome = match method {
             _ if self.stage != Stage::Initialized => Ok(()),
-            "textDocument/didOpen" => self.documents.open(params, encoding),
-            "textDocument/didChange" => self.documents.change(params, encoding),
+            "textDocument/didOpen" => guarded(|| self.documents.open(params, encoding)),
+            "textDocument/didChange" => guarded(|| self.documents.change(params, encoding)),
             "textDocument/didClose" => return self.closed(params),
-            _ => Ok(()),
+            "initialized" => return self.initialized(),
+            "workspace/didChangeConfiguration" => return self.settings_changed(params),
+            _ => {
+                self.files_notified(method, params);
+                Ok(())
+            }
         };
         match outcome {
             Ok(()) => Ok(()),
@@ -133,6 +186,9 @@ impl<W: Write> Server<W> {
 
     // Logs what went wrong with a notification, but not what follows from a loss that has been reported, such as each further change.
     fn report(&mut self, failure: &Failure) -> io::Result<()> {
+        if failure.code == Code::InternalError {
+            self.documents.lose_all();
+        }
         if failure.code != Code::RequestFailed {
             self.log(failure)?;
         }
@@ -142,7 +198,7 @@ impl<W: Write> Server<W> {
     // Says of each document that has been lost why nothing is known of it, and removes its diagnostics.
     fn report_lost(&mut self) -> io::Result<()> {
         while let Some(uri) = self.documents.next_lost() {
-            let params = object([("type", 2_usize.into()), ("message", lost(&uri).message.into())]);
+            let params = object([("type", WARNING.into()), ("message", lost(&uri).message.into())]);
             self.send(&notification("window/showMessage", params))?;
             self.send(&notification(
                 "textDocument/publishDiagnostics",
@@ -186,6 +242,7 @@ impl<W: Write> Server<W> {
     fn closed(&mut self, params: &Value) -> io::Result<()> {
         match self.documents.close(params) {
             Ok(uri) => {
+                self.workspace.closed(&uri);
                 let params = diagnostics::none_for(&uri);
                 self.send(&notification("textDocument/publishDiagnostics", params))
             }
@@ -195,10 +252,10 @@ impl<W: Write> Server<W> {
 
     // Sends the diagnostics of one document that has changed. Returns whether there was one.
     fn publish(&mut self) -> io::Result<bool> {
-        let Some(document) = self.documents.next_new() else {
+        let Some(document) = self.documents.next_new().filter(|_| !self.client.asks_for_diagnostics) else {
             return Ok(false);
         };
-        match guarded(|| diagnostics::published(document)) {
+        match guarded(|| diagnostics::published(document, &self.client, &self.settings)) {
             Ok(params) => self.send(&notification("textDocument/publishDiagnostics", params))?,
             Err(failure) => self.log(&failure)?,
         }
@@ -217,8 +274,9 @@ impl<W: Write> Server<W> {
             }
             (Some("exit"), None) => return Ok(Next::End(u8::from(self.stage != Stage::ShutDown))),
             (Some(method), None) => self.notified(method, params)?,
-            // The answer to a request, of which the server makes none.
-            (None, Some(_)) if message.get("result").or(message.get("error")).is_some() => {}
+            (None, Some(id)) if message.get("result").or(message.get("error")).is_some() => {
+                self.answered(id, message)?;
+            }
             _ => {
                 let failure = Failure::new(Code::InvalidRequest, "the message is no request");
                 self.send(&response(Value::Null, Err(failure)))?;
@@ -246,13 +304,23 @@ impl<W: Write> Server<W> {
         }
     }
 
+    // Does one step of what is to be done while no message waits. Returns whether there was one.
+    fn work(&mut self) -> io::Result<bool> {
+        for step in [Server::complain, Server::publish, Server::read_options, Server::index] {
+            if step(self)? {
+                return Ok(true);
+            }
+        }
+        Ok(false)
+    }
+
     fn serve(&mut self, queue: &mut Queue) -> io::Result<u8> {
         loop {
             if let Some(incoming) = queue.next_now() {
                 if let Next::End(status) = self.take(incoming)? {
                     return Ok(status);
                 }
-            } else if !self.publish()? {
+            } else if !self.work()? {
                 queue.wait();
             }
         }
@@ -266,6 +334,10 @@ pub fn serve(input: impl Read + Send + 'static, output: impl Write) -> u8 {
         stage: Stage::Started,
         client: Client::new(&Value::Null),
         documents: Documents::default(),
+        settings: Settings::new(),
+        complaints: VecDeque::new(),
+        workspace: Workspace::default(),
+        outgoing: Outgoing::default(),
     };
     server.serve(&mut Queue::new(input)).unwrap_or(1)
 }

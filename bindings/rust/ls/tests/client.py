@@ -20,6 +20,7 @@ CAPABILITIES = {
         "hover": {"contentFormat": ["markdown", "plaintext"]},
         "documentSymbol": {"hierarchicalDocumentSymbolSupport": True},
         "codeAction": {"codeActionLiteralSupport": {"codeActionKind": {"valueSet": ["quickfix"]}}},
+        "publishDiagnostics": {"relatedInformation": True},
         "semanticTokens": {"requests": {"range": True, "full": {"delta": True}}},
     },
 }
@@ -34,9 +35,10 @@ def frame(message):
 class Client:
     """A server with its pipes."""
 
-    def __init__(self, capabilities=None, is_initialized=True, below=()):
-        """Starts a server, `below` the command of a tool such as valgrind."""
-        self.process = subprocess.Popen([*below, PROGRAM, "--stdio"], stdin=subprocess.PIPE, stdout=subprocess.PIPE, bufsize=0)
+    def __init__(self, capabilities=None, is_initialized=True, below=(), options=None, folders=None, environment=None):
+        """Starts a server, `below` the command of a tool such as valgrind, with the settings that it begins with and the URIs of the folders of a workspace."""
+        command, environment = [*below, PROGRAM, "--stdio"], {**os.environ, **(environment or {})}
+        self.process = subprocess.Popen(command, stdin=subprocess.PIPE, stdout=subprocess.PIPE, bufsize=0, env=environment)
         self.arrived = bytearray()
         self.count = 0
         self.notifications = []
@@ -44,7 +46,9 @@ class Client:
         self.greeting = None
         if is_initialized:
             capabilities = CAPABILITIES if capabilities is None else capabilities
-            self.greeting = self.ask("initialize", {"processId": None, "rootUri": None, "capabilities": capabilities})
+            named = folders and [{"uri": it, "name": "folder"} for it in folders]
+            params = {"processId": None, "rootUri": None, "workspaceFolders": named, "capabilities": capabilities, "initializationOptions": options}
+            self.greeting = self.ask("initialize", params)
             self.tell("initialized", {})
 
     def __enter__(self):
@@ -146,6 +150,13 @@ class Client:
                 if message["params"].get("version") == self.version:
                     return message["params"]["diagnostics"]
 
+    def message(self, method):
+        """Waits for a notification or a request of a method, and returns it."""
+        while True:
+            message = self.notifications.pop(0) if self.notifications else self.read()
+            if message.get("method") == method:
+                return message
+
     def at(self, method, position=None, uri=URI, **others):
         """Asks about a document."""
         params = {"textDocument": {"uri": uri}, **others}
@@ -189,6 +200,13 @@ def is_bounded(sizes_of_round):
     return False
 
 
+def anonymous(diagnostics):
+    """Returns diagnostics without the name of the document, so that those of two documents compare."""
+    for note in [note for found in diagnostics for note in found.get("relatedInformation", [])]:
+        del note["location"]["uri"]
+    return diagnostics
+
+
 def place(position):
     """Returns a position as the protocol writes it."""
     return {"line": position[0], "character": position[1]}
@@ -217,6 +235,20 @@ def span(thing):
     thing = thing.get("range", thing)
     start, end = thing["start"], thing["end"]
     return start["line"], start["character"], end["line"], end["character"]
+
+
+def text_at(text, thing, unit="utf-16"):
+    """Returns the part of a text at the range of an answer, or None if the text has no such range. Columns count UTF-16 units or bytes."""
+    lines, (first, start, last, end) = text.split("\n"), span(thing)
+    if (first, start) > (last, end) or last >= len(lines):
+        return None
+    code, width = ("utf-8", 1) if unit == "utf-8" else ("utf-16-le", 2)
+    coded = [it.encode(code) for it in lines[first : last + 1]]
+    if width * start > len(coded[0]) or width * end > len(coded[-1]):
+        return None
+    coded[-1] = coded[-1][: width * end]
+    coded[0] = coded[0][width * start :]
+    return "\n".join(it.decode(code) for it in coded)
 
 
 def position_of(text, offset):

@@ -4,7 +4,7 @@ import random
 import re
 import unittest
 
-from client import URI, Client, frame, is_bounded, patched, place
+from client import URI, Client, anonymous, frame, is_bounded, patched, place
 
 OTHER = "file:///other.nix"
 
@@ -90,7 +90,7 @@ class Edits(unittest.TestCase):
 
     def asked(self, uri):
         """Asks for more that depends on the whole text."""
-        diagnostics = self.client.diagnostics()
+        diagnostics = anonymous(self.client.diagnostics())
         return diagnostics, self.client.at("foldingRange", uri=uri), self.client.at("documentSymbol", uri=uri)
 
     def test_edits_of_tokens_give_those_of_the_whole_text(self):

@@ -73,14 +73,14 @@ class Features(unittest.TestCase):
         self.client.open("{ a = 1 }")
         (error,) = self.client.diagnostics()
         self.assertEqual(error["message"], 'expected ";" after the value of "a", found "}"')
-        self.assertEqual((error["severity"], error["source"]), (1, "rnix"))
+        self.assertEqual((error["severity"], error["source"], error["code"]), (1, "rnix", "syntax-error"))
         self.client.change(((0, 7), (0, 7), ";"))
         self.assertEqual(self.client.diagnostics(), [])
 
     def test_unused_names_are_hints(self):
         hints = self.client.diagnostics()
         self.assertEqual([span(it) for it in hints], [places("unused")[0], places("mapAttrs")[0]])
-        self.assertEqual([(it["severity"], it["tags"], it["code"]) for it in hints], [(4, [1], "unused")] * 2)
+        self.assertEqual([(it["severity"], it["tags"], it["code"]) for it in hints], [(4, [1], "unused-name")] * 2)
 
     def test_closing_a_document_removes_its_diagnostics(self):
         self.client.open("{", "file:///other.nix")
@@ -198,11 +198,12 @@ class Features(unittest.TestCase):
     def test_a_quick_fix_removes_an_unused_name(self):
         hints = self.client.diagnostics()
         for hint, before, after in [(hints[0], "stdenv, unused,", "stdenv,"), (hints[1], "  inherit (lib) mapAttrs;\n", "")]:
-            (action,) = self.client.at("codeAction", range=hint["range"], context={"diagnostics": [hint]})
+            context = {"diagnostics": [hint], "only": ["quickfix"]}
+            (action,) = self.client.at("codeAction", range=hint["range"], context=context)
             self.assertEqual((action["kind"], action["diagnostics"]), ("quickfix", [hint]))
             self.assertEqual(applied(TEXT, self.edits(action["edit"])), TEXT.replace(before, after))
         whole = {"start": {"line": 0, "character": 0}, "end": {"line": 99, "character": 0}}
-        self.assertEqual(len(self.client.at("codeAction", range=whole, context={"diagnostics": []})), 2)
+        self.assertEqual(len(self.client.at("codeAction", range=whole, context={"diagnostics": [], "only": ["quickfix"]})), 2)
         only = {"diagnostics": [], "only": ["refactor"]}
         self.assertEqual(self.client.at("codeAction", range=whole, context=only), [])
 
@@ -247,8 +248,10 @@ class Features(unittest.TestCase):
             self.assertIn("Apply the function *f*", found["map"]["documentation"]["value"])
             self.assertNotIn("documentation", found["storeDir"])
         self.assertEqual(span(items("builtins.ma|")["map"]["textEdit"]), (0, 9, 0, 11))
-        for text in ["let builtins = 1; in builtins.|", "builtins: builtins.|", "x: x.builtins.|", "builtins.map.|", "{ builtins.| }", "builtins ? |"]:
+        for text in ["let builtins = 1; in builtins.|", "builtins: builtins.|", "x: x.builtins.|", "builtins.map.|", "{ builtins.| }"]:
             self.assertEqual(items(text), {}, text)
+        for text in ["builtins ? |", "{ inherit (builtins) |; }"]:
+            self.assertEqual(len(items(text)), 111, text)
         self.assertIn("Apply the function *f*", items("ma|")["map"]["documentation"]["value"])
 
     def test_paths_lead_to_the_files_that_they_name(self):
@@ -287,12 +290,15 @@ class Features(unittest.TestCase):
         self.assertLessEqual({"a", "args"}, labels("{ a, ... }@args: { b = |"))
         self.assertLessEqual({"a"}, labels("a: { inherit | }"))
         self.assertLessEqual({"import"}, labels("i|"))
+        self.assertLessEqual({"let", "if", "with", "rec", "assert"}, labels("a: |"))
         self.assertNotIn("a", labels("(let a = 1; in a) + |"))
         self.assertNotIn("b", labels("{ b = 1; c = |; }"))
         self.assertIn("b", labels("rec { b = 1; c = |; }"))
         self.assertNotIn("b", labels("[ (rec { b = 1; }) | ]"))
-        for text in ["a: a.|", "a: a.b|", "a: a ? |", "a: { | }", "a: { b| }", "let a = 1; | in 1", "# a |", '"a |"', "./a|", "{ a, | }: 1", "a|: 1"]:
+        for text in ["a: a.|", "a: a.b|", "a: a ? |", "# a |", '"a |"', "./none/a|", "{ a, | }: 1", "a|: 1"]:
             self.assertEqual(labels(text), set(), text)
+        for text in ["a: { | }", "a: { b| }", "let a = 1; | in 1"]:
+            self.assertEqual(labels(text), {"inherit"}, text)
 
     def test_completion_replaces_what_has_been_typed(self):
         self.client.change("let foo-bar = 1; in foo-b")

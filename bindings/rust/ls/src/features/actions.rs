@@ -1,32 +1,34 @@
-//! Quick fixes for syntax errors and unused names.
+//! Quick fixes for syntax errors, what the lints find, and unused names, and the other code actions.
 
 use super::comments::has_comment;
-use super::diagnostics::{error, hint};
-use super::fixes::{correction, Fix};
+use super::findings::{finding, shown, UNUSED};
+use super::fixes::{correction, proposal, Fix};
+use super::meaning::edited;
+use super::refactorings::{self, wants};
 use super::rename::keeps_meaning;
-use super::unused::unused;
 use crate::analysis::{name_text, Analysis};
+use crate::edits::Edit;
 use crate::json::{array, object, Value};
 use crate::protocol::{range_of, Outcome};
 use crate::request::Request;
 use rnix::ast::{Inherit, Pattern};
-use rnix::scopes::{resolve, Resolution};
+use rnix::diagnostics::Diagnostic;
 use rnix::syntax::ast::AstNode as _;
-use rnix::{Edits, Root, SyntaxKind, SyntaxNode, TextRange, TextSize};
+use rnix::{SyntaxKind, SyntaxNode, TextRange, TextSize};
 
-/// An answer has at most this many quick fixes for errors, and as many for unused names, since each of them is tried out.
+/// An answer has at most this many quick fixes for errors or unused names, since each of them is tried out, and as many that lints propose.
 const MOST: usize = 20;
 
 /// For each error or name for which a fix is tried, the text is parsed a few times. These texts have at most this many bytes in all, but for one.
 const MOST_BYTES: usize = 2_000_000;
 
-// For how many errors of a text, and for how many unused names, an answer tries fixes.
+// For how many errors or unused names of a text an answer tries fixes.
 fn most_tries(text: &str) -> usize {
     (MOST_BYTES / text.len().max(1)).clamp(1, MOST)
 }
 
-// A range with the white space after it, or its whole lines if nothing else is in them.
-fn with_space(text: &str, range: TextRange) -> TextRange {
+/// Returns a range with the white space after it, or its whole lines if nothing else is in them.
+pub fn with_space(text: &str, range: TextRange) -> TextRange {
     let (start, end) = (usize::from(range.start()), usize::from(range.end()));
     let before = text[..start].rfind('\n').map_or(0, |newline| newline + 1);
     let blank = |text: &str| text.len() - text.trim_start_matches([' ', '\t']).len();
@@ -42,8 +44,8 @@ fn with_space(text: &str, range: TextRange) -> TextRange {
     }
 }
 
-// What is removed with a name of an `inherit`: its white space, or the whole entry if it is the only name.
-fn inherited_range(text: &str, inherit: &Inherit, name: &SyntaxNode) -> TextRange {
+/// Returns what is removed with a name of an `inherit`: its white space, or the whole entry if it is the only name.
+pub fn inherited_range(text: &str, inherit: &Inherit, name: &SyntaxNode) -> TextRange {
     if inherit.attrs().count() == 1 {
         return with_space(text, inherit.syntax().text_range());
     }
@@ -63,8 +65,8 @@ fn argument_range(text: &str, entry: &SyntaxNode) -> Option<TextRange> {
     Some(TextRange::new(entry.text_range().start(), end))
 }
 
-// What is removed with a part of a binding.
-fn removed_range(text: &str, name: &SyntaxNode) -> Option<TextRange> {
+/// Returns what is removed with a part of a binding.
+pub fn removed_range(text: &str, name: &SyntaxNode) -> Option<TextRange> {
     let parent = name.parent()?;
     match parent.kind() {
         SyntaxKind::NODE_ATTRPATH => Some(with_space(text, parent.parent()?.text_range())),
@@ -75,33 +77,6 @@ fn removed_range(text: &str, name: &SyntaxNode) -> Option<TextRange> {
     }
 }
 
-// What the references outside of some ranges refer to: the offsets of the bindings, as if the ranges were removed.
-fn references(names: &Resolution, removed: &[TextRange]) -> Vec<(Option<usize>, bool)> {
-    let moved = |offset: TextSize| {
-        let before = removed.iter().filter(|range| range.end() <= offset);
-        usize::from(offset) - before.map(|range| usize::from(range.len())).sum::<usize>()
-    };
-    let is_kept = |node: &SyntaxNode| !removed.iter().any(|range| range.contains_range(node.text_range()));
-    let kept = names.references.iter().filter(|one| is_kept(&one.name));
-    let bound = |number: usize| moved(names.bindings[number].name.text_range().start());
-    kept.map(|one| (one.binding.map(bound), one.is_open)).collect()
-}
-
-// Whether a text has no errors after ranges are removed, and what is left means what it meant.
-fn may_remove(analysis: &Analysis, text: &str, ranges: &[TextRange]) -> bool {
-    let mut edits = Edits::new(text);
-    if ranges.iter().try_for_each(|range| edits.replace(*range, "")).is_err() {
-        return false;
-    }
-    match Root::try_parse(&edits.apply()) {
-        Ok(parse) => {
-            let after = references(&resolve(&parse), &[]);
-            parse.errors().is_empty() && after == references(analysis.names(), ranges)
-        }
-        Err(_) => false,
-    }
-}
-
 // The quick fix that removes a binding.
 fn removal(analysis: &Analysis, text: &str, number: usize) -> Option<Fix> {
     let parts = analysis.names().bindings.iter().filter(|part| part.first == number);
@@ -109,9 +84,11 @@ fn removal(analysis: &Analysis, text: &str, number: usize) -> Option<Fix> {
         .map(|part| removed_range(text, &part.name))
         .collect::<Option<Vec<_>>>()?;
     let name = name_text(&analysis.binding(number)?.name);
-    may_remove(analysis, text, &ranges).then(|| Fix {
+    let edits: Vec<Edit> = ranges.into_iter().map(|range| (range, String::new())).collect();
+    let is_kept = edited(analysis, text, &edits)?.keeps_rest();
+    is_kept.then(|| Fix {
         title: format!("Remove `{name}`"),
-        edits: ranges.into_iter().map(|range| (range, String::new())).collect(),
+        edits,
     })
 }
 
@@ -128,78 +105,83 @@ fn mark(analysis: &Analysis, number: usize) -> Option<Fix> {
     })
 }
 
+// The quick fix that removes the name of a diagnostic, or marks it as unused.
+fn disposal(analysis: &Analysis, text: &str, found: &Diagnostic) -> Option<Fix> {
+    let number = analysis.binding_at(found.range)?;
+    removal(analysis, text, number).or_else(|| mark(analysis, number))
+}
+
 // A quick fix for a diagnostic as a code action.
-fn shown(request: &Request, diagnostic: Option<Value>, fix: &Fix) -> Value {
+fn quick_fix(request: &Request, found: &Diagnostic, fix: &Fix) -> Value {
+    let diagnostic = finding(request.document, request.analysis, request.client, found);
     object([
         ("title", fix.title.as_str().into()),
         ("kind", "quickfix".into()),
-        ("diagnostics", array(diagnostic)),
+        ("diagnostics", array([diagnostic])),
         ("isPreferred", true.into()),
         ("edit", request.workspace_edit(&fix.edits)),
     ])
 }
 
-// Whether the client asks for quick fixes.
-fn wants_fixes(request: &Request) -> bool {
-    let only = request.params.at(&["context", "only"]).and_then(Value::as_array);
-    let is_wanted = |kind: &Value| matches!(kind.as_str(), Some("" | "quickfix"));
-    request.client.takes_actions && only.map_or(true, |kinds| kinds.iter().any(is_wanted))
+// The diagnostics in a range that are shown, with their numbers.
+fn found_in<'r>(request: &Request<'r>, range: TextRange) -> impl Iterator<Item = (usize, &'r Diagnostic)> {
+    let shown = shown(request.analysis, request.settings);
+    shown.filter(move |(_, found)| found.range.intersect(range).is_some())
 }
 
-// The quick fixes for the errors in a range.
-fn corrections(request: &Request, range: TextRange) -> Vec<Value> {
+// The quick fixes for the errors or the unused names in a range, which are tried out.
+fn tried(request: &Request, range: TextRange) -> Vec<Value> {
     let (analysis, text) = (request.analysis, request.text().content());
-    let numbered = analysis.diagnostics().iter().enumerate();
-    let in_range = numbered.filter(|(_, found)| found.range.intersect(range).is_some());
+    let has_errors = analysis.has_errors();
     let action = |(number, found)| {
-        let fix = correction(analysis, text, number)?;
-        Some(shown(request, Some(error(request.document, found)), &fix))
+        let fix = if has_errors {
+            correction(analysis, text, number)?
+        } else {
+            disposal(analysis, text, found)?
+        };
+        Some(quick_fix(request, found, &fix))
     };
+    let in_range = found_in(request, range).filter(|(_, found)| has_errors || found.code == UNUSED);
     in_range.take(most_tries(text)).filter_map(action).collect()
 }
 
-// The quick fixes for the unused names in a range.
-fn removals(request: &Request, range: TextRange) -> Vec<Value> {
-    let (analysis, text) = (request.analysis, request.text().content());
-    let is_in_range = |number: &usize| {
-        let place = analysis.binding(*number).map(|binding| binding.name.text_range());
-        place.is_some_and(|place| place.intersect(range).is_some())
-    };
-    let action = |number| {
-        let fix = removal(analysis, text, number).or_else(|| mark(analysis, number))?;
-        Some(shown(request, hint(request.document, analysis, number), &fix))
-    };
-    let in_range = unused(analysis).into_iter().filter(is_in_range);
-    in_range.take(most_tries(text)).filter_map(action).collect()
+// The quick fixes that lints propose in a range. In a text with errors they find nothing.
+fn proposals(request: &Request, range: TextRange) -> Vec<Value> {
+    if request.analysis.has_errors() {
+        return Vec::new();
+    }
+    let text = request.text().content();
+    let action = |(_, found)| Some(quick_fix(request, found, &proposal(found, text)?));
+    found_in(request, range).filter_map(action).take(MOST).collect()
 }
 
-/// Returns the response to `textDocument/codeAction`: the quick fixes for the errors and the unused names in the range.
+/// Returns the response to `textDocument/codeAction`: the quick fixes for what is wrong in the range, and what else can be done there.
 ///
 /// # Errors
 /// The parameters have no range.
 pub fn actions(request: &Request) -> Outcome {
     let range = range_of(request.text(), request.params.get("range"))?;
-    if !wants_fixes(request) {
-        return Ok(array([]));
+    let mut found = Vec::new();
+    if wants(request, "quickfix") {
+        found.extend(tried(request, range));
+        found.extend(proposals(request, range));
     }
-    let corrections = corrections(request, range);
-    Ok(array(corrections.into_iter().chain(removals(request, range))))
+    let tries = most_tries(request.text().content());
+    found.extend(refactorings::actions(request, range, tries));
+    Ok(array(found))
 }
 
 #[cfg(test)]
 mod tests {
     use super::*;
+    use crate::edits::applied;
 
     // The text after the first fix of the first unused name.
     fn fixed(text: &str) -> Option<String> {
         let analysis = Analysis::new(text).unwrap();
-        let number = unused(&analysis)[0];
-        let fix = removal(&analysis, text, number).or_else(|| mark(&analysis, number))?;
-        let mut edits = Edits::new(text);
-        for (range, new) in fix.edits {
-            edits.replace(range, new).unwrap();
-        }
-        Some(edits.apply())
+        let mut found = analysis.diagnostics().iter();
+        let fix = disposal(&analysis, text, found.find(|one| one.code == UNUSED).unwrap())?;
+        applied(text, &fix.edits)
     }
 
     #[test]

@@ -1,8 +1,8 @@
-//! What quick fixes for syntax errors write, and their titles.
+//! What quick fixes for syntax errors and lints write, and their titles.
 
 use crate::analysis::Analysis;
-use rnix::diagnostics::fix;
-use rnix::TextRange;
+use crate::edits::Edit;
+use rnix::diagnostics::{fix, Diagnostic};
 
 /// A title shows texts that are longer than this many characters without their middle.
 const MOST_SHOWN: usize = 40;
@@ -12,8 +12,8 @@ const MOST_SHOWN: usize = 40;
 pub struct Fix {
     /// The title.
     pub title: String,
-    /// The ranges that it replaces, each with its new text.
-    pub edits: Vec<(TextRange, String)>,
+    /// Its edits.
+    pub edits: Vec<Edit>,
 }
 
 // Whether all characters of a text are white space or invisible.
@@ -22,8 +22,8 @@ fn is_invisible(text: &str) -> bool {
     text.chars().all(|sign| sign.is_whitespace() || is_sign(sign))
 }
 
-// A text in one line, without its middle if it is long.
-fn shortened(text: &str) -> String {
+/// Returns a text in one line, without its middle if it is long.
+pub fn shortened(text: &str) -> String {
     let line = text.split_whitespace().collect::<Vec<_>>().join(" ");
     let count = line.chars().count();
     if count <= MOST_SHOWN {
@@ -53,7 +53,7 @@ fn title(old: &str, new: &str) -> String {
     }
 }
 
-/// Returns the quick fix for the diagnostic of a number, if there is one. It takes the time of a few parses.
+/// Returns the quick fix for the syntax error of a number, if there is one. It takes the time of a few parses.
 pub fn correction(analysis: &Analysis, text: &str, number: usize) -> Option<Fix> {
     let found = fix(&analysis.parse, number)?;
     Some(Fix {
@@ -62,19 +62,24 @@ pub fn correction(analysis: &Analysis, text: &str, number: usize) -> Option<Fix>
     })
 }
 
+/// Returns the quick fix that a note on the finding of a lint proposes.
+pub fn proposal(found: &Diagnostic, text: &str) -> Option<Fix> {
+    let proposed = found.notes.iter().find_map(|note| note.replacement.as_ref())?;
+    Some(Fix {
+        title: title(&text[proposed.range], &proposed.text),
+        edits: vec![(proposed.range, proposed.text.clone())],
+    })
+}
+
 #[cfg(test)]
 mod tests {
     use super::*;
-    use rnix::Edits;
+    use crate::edits::applied;
 
     // The title of the fix of the first error, and the text after it.
     fn fixed(text: &str) -> Option<(String, String)> {
         let found = correction(&Analysis::new(text).unwrap(), text, 0)?;
-        let mut edits = Edits::new(text);
-        for (range, new) in found.edits {
-            edits.replace(range, new).unwrap();
-        }
-        Some((found.title, edits.apply()))
+        Some((found.title, applied(text, &found.edits).unwrap()))
     }
 
     #[test]

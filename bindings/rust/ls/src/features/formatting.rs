@@ -1,16 +1,18 @@
-//! Formatting in the style of Nixpkgs.
+//! Formatting in the style of Nixpkgs, or by a command that is set.
 //!
-//! The new text has the same tokens, except that strings in `''` may have other indentation. So each edit replaces the white space between two
-//! neighbouring tokens, or such a string as a whole: its value would change if only some of its lines moved.
+//! The new text has the same tokens, except that strings in `''` may have other indentation, and interpolations other white space. So each edit replaces the
+//! white space between two neighbouring tokens, or a string as a whole: its value would change if only some of its lines moved.
 
-use crate::json::{array, object, Value};
+use crate::edits::{difference, Edit};
+use crate::process::filtered;
 use crate::protocol::{range_of, size, Code, Failure, Outcome};
 use crate::request::Request;
 use rnix::formatting::{formatted, FormatError};
 use rnix::{try_tokenize, Refused, SyntaxKind, TextRange};
+use std::time::Duration;
 
-/// An edit: a range and its new text.
-type Edit = (TextRange, String);
+/// A command that formats may take this long.
+const LIMIT: Duration = Duration::from_secs(10);
 
 /// A token other than white space, or a whole string, with its place and the white space before it.
 struct Piece {
@@ -50,10 +52,15 @@ fn piece(space: usize, start: usize, end: usize) -> Piece {
     }
 }
 
+// Whether a piece is a string.
+fn is_string(piece: &str) -> bool {
+    piece.starts_with("''") || piece.starts_with('"')
+}
+
 // The edits that replace the white space and the strings of one text by those of another one, if their other tokens are the same.
 fn piece_edits(old: &str, new: &str) -> Result<Option<Vec<Edit>>, Refused> {
     let (olds, news) = (pieces(old)?, pieces(new)?);
-    let are_same = |(old, new): (&str, &str)| old == new || (old.starts_with("''") && new.starts_with("''"));
+    let are_same = |(old, new): (&str, &str)| old == new || (is_string(old) && is_string(new));
     let texts = |(a, b): (&Piece, &Piece)| are_same((&old[a.place], &new[b.place]));
     if olds.len() != news.len() || !olds.iter().zip(&news).all(texts) {
         return Ok(None);
@@ -75,29 +82,45 @@ fn edits(text: &str) -> Result<Vec<Edit>, Failure> {
     Ok(found.unwrap_or_else(|| vec![(TextRange::new(size(0), size(text.len())), new)]))
 }
 
-fn written(request: &Request, edits: &[Edit]) -> Value {
-    let edit = |(place, new): &Edit| object([("range", request.range(*place)), ("newText", new.as_str().into())]);
-    array(edits.iter().map(edit))
+// The edits that make a text what a command makes of it.
+fn edits_by(command: &[String], text: &str) -> Result<Vec<Edit>, Failure> {
+    let new = filtered(command, text, LIMIT).map_err(Failure::refused)?;
+    if new.is_empty() && !text.trim().is_empty() {
+        return Err(Failure::refused(format!(
+            "`{}`: it has written nothing",
+            command.join(" ")
+        )));
+    }
+    Ok(difference(text, &new).into_iter().collect())
 }
 
-/// Returns the response to `textDocument/formatting`: edits of white space, and of strings in `''`. A text with errors stays as it is.
+/// Returns the response to `textDocument/formatting`: edits of white space, and of strings. A text with errors stays as it is. A command that is set
+/// formats in place of that.
 ///
 /// # Errors
-/// Memory runs out.
+/// Memory runs out, or the command fails.
 pub fn whole(request: &Request) -> Outcome {
-    let edits = edits(request.text().content())?;
-    Ok(written(request, &edits))
+    let (command, text) = (&request.settings.formatter, request.text().content());
+    let edits = if command.is_empty() {
+        edits(text)
+    } else {
+        edits_by(command, text)
+    }?;
+    Ok(request.edits(&edits))
 }
 
 /// Returns the response to `textDocument/rangeFormatting`: of the edits that format the whole text those that touch the range.
 ///
 /// # Errors
-/// Memory runs out, or the parameters name no range.
+/// Memory runs out, or the parameters name no range, or a command is set, which formats whole texts.
 pub fn in_range(request: &Request) -> Outcome {
+    if !request.settings.formatter.is_empty() {
+        return Err(Failure::refused("the command that is set formats whole texts only"));
+    }
     let place = range_of(request.text(), request.params.get("range"))?;
     let mut edits = edits(request.text().content())?;
     edits.retain(|(space, _)| space.start() <= place.end() && place.start() <= space.end());
-    Ok(written(request, &edits))
+    Ok(request.edits(&edits))
 }
 
 #[cfg(test)]
@@ -114,6 +137,7 @@ mod tests {
             "let  a=1 ;in\ta",
             "x:''\n  a\n''",
             "{a=''\nb ${ c }\nd\n'' ;}",
+            "[ \"${ a }\" ./${ b }/c  ]",
         ] {
             let mut changed = Edits::new(text);
             for (place, new) in edits(text).unwrap() {

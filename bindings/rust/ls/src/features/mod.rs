@@ -1,21 +1,29 @@
-//! What the server can do with a document, one file for each feature.
+//! What the server can do with a document or the workspace, one file for each feature.
 
 pub mod actions;
 pub mod builtins;
 pub mod classes;
 pub mod comments;
 pub mod completion;
+pub mod definition;
 pub mod delta;
 pub mod diagnostics;
+pub mod findings;
 pub mod fixes;
+pub mod flake;
 pub mod folding;
 pub mod formatting;
 pub mod globals;
 pub mod hover;
+pub mod identifiers;
 pub mod links;
+pub mod meaning;
 pub mod navigation;
+pub mod option_paths;
+pub mod refactorings;
 pub mod rename;
 pub mod selection;
 pub mod symbols;
 pub mod tokens;
-pub mod unused;
+pub mod values;
+pub mod workspace_symbols;

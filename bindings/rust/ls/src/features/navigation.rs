@@ -1,6 +1,6 @@
-//! Where a name is bound, and where it is used.
+//! Where a name is bound in its text, and where it is used there.
 
-use super::links;
+use crate::analysis::{Analysis, Name};
 use crate::json::{array, object, Value};
 use crate::protocol::{Failure, Outcome};
 use crate::request::Request;
@@ -10,22 +10,14 @@ use rnix::TextRange;
 const READ: usize = 2;
 const WRITE: usize = 3;
 
-/// Returns the response to `textDocument/definition`: each part of the binding that the name refers to, or its own.
-/// A name that an `inherit` binds refers to the one that it inherits. For a path, this is the file that it names.
-///
-/// # Errors
-/// The parameters name no position.
-pub fn definition(request: &Request) -> Outcome {
-    let Some(name) = request.name()? else {
-        return links::definition(request);
-    };
-    let analysis = request.analysis;
+/// Returns where in its text a name is bound: each part of the binding that it refers to, or its own. A name that an `inherit` binds refers to the one
+/// that it inherits.
+pub fn bound_places(analysis: &Analysis, name: &Name) -> Vec<TextRange> {
     let referred = name.reference.and_then(|number| analysis.reference(number)?.binding);
-    let places = match referred.or_else(|| analysis.bound_to(&name)) {
+    match referred.or_else(|| analysis.bound_to(name)) {
         Some(number) => analysis.written_at(number),
         None => Vec::new(),
-    };
-    Ok(array(places.into_iter().map(|place| request.location(place))))
+    }
 }
 
 // Where the name at the position is bound, and where it is used. A name that the text does not bind has the other names of its text instead.

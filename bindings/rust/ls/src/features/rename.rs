@@ -4,16 +4,14 @@
 
 use super::comments::has_comment;
 use crate::analysis::{name_text, Analysis, Name};
+use crate::edits::{applied, Edit};
 use crate::json::{object, Value};
 use crate::protocol::{Failure, Outcome};
 use crate::request::Request;
 use rnix::ast::{Attr, Expr, Inherit};
 use rnix::scopes::{resolve, Binding, Resolution};
 use rnix::syntax::ast::AstNode as _;
-use rnix::{Edits, Root, SyntaxKind, SyntaxNode, TextRange, TextSize};
-
-/// An edit: a range and its new text.
-pub type Edit = (TextRange, String);
+use rnix::{Root, SyntaxKind, SyntaxNode, TextRange, TextSize};
 
 const COMMENT: &str = "an `inherit` with comments has the name: give it its own entry first";
 const ELSE: &str = "with the new name, some name would refer to something else";
@@ -116,17 +114,8 @@ fn is_like(before: &Resolution, after: &Resolution) -> bool {
 /// Returns whether the edited text has no errors, and each name in it refers to what it referred to before.
 pub fn keeps_meaning(analysis: &Analysis, edits: &[Edit]) -> bool {
     let text = analysis.root().to_string();
-    let mut changed = Edits::new(&text);
-    let all = edits
-        .iter()
-        .try_for_each(|(place, new)| changed.replace(*place, new.as_str()));
-    if all.is_err() {
-        return false;
-    }
-    match Root::try_parse(&changed.apply()) {
-        Ok(parse) => parse.errors().is_empty() && is_like(analysis.names(), &resolve(&parse)),
-        Err(_) => false,
-    }
+    let parse = applied(&text, edits).and_then(|text| Root::try_parse(&text).ok());
+    parse.is_some_and(|parse| parse.errors().is_empty() && is_like(analysis.names(), &resolve(&parse)))
 }
 
 // The edits that give what a name is bound to a new name.
@@ -186,11 +175,7 @@ mod tests {
         let analysis = Analysis::new(&text).unwrap();
         let name = analysis.name_at(TextSize::try_from(at).unwrap());
         let edits = rename_to(&analysis, name.as_ref(), new).map_err(|failure| failure.message)?;
-        let mut changed = Edits::new(&text);
-        for (place, new) in edits {
-            changed.replace(place, new).unwrap();
-        }
-        Ok(changed.apply())
+        Ok(applied(&text, &edits).unwrap())
     }
 
     #[test]

@@ -32,8 +32,8 @@ struct Symbol {
     parent: Option<usize>,
 }
 
-// The kind of a value.
-fn kind_of(value: Option<Expr>) -> usize {
+/// Returns the kind of a value, by the protocol's numbers.
+pub fn kind_of(value: Option<Expr>) -> usize {
     match value {
         Some(Expr::Lambda(_)) => FUNCTION,
         Some(Expr::Str(_)) => STRING,
@@ -52,8 +52,8 @@ fn kind_of(value: Option<Expr>) -> usize {
     }
 }
 
-// The text of a name in one line. It is not empty.
-fn shown(name: &SyntaxNode) -> String {
+/// Returns the text of a name in one line. It is not empty.
+pub fn shown(name: &SyntaxNode) -> String {
     let text = name.element_ref().text();
     let is_plain = |byte: u8| byte.is_ascii_graphic();
     if text.len() <= MOST_CHARACTERS && !text.is_empty() && text.bytes().all(is_plain) {

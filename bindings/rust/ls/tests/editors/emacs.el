@@ -39,23 +39,23 @@
 (defun run ()
   (find-file "example.nix")
   (apply #'eglot (eglot--guess-contact))
-  (message-is "rnix [unused]: `unused` is not used")
+  (message-is "rnix [unused-name]: `unused` is not used")
 
   ;; An error, and its correction.
   (go-to ";\n  archive")
   (delete-char 1)
   (changed)
-  (message-is "rnix: expected \";\" after the value of \"version\", found \"=\"")
+  (message-is "rnix [syntax-error]: expected \";\" after the value of \"version\", found \"=\"\nnote: \";\" is missing here, line 6")
   (insert ";")
   (changed)
-  (message-is "rnix [unused]: `unused` is not used")
+  (message-is "rnix [unused-name]: `unused` is not used")
 
   ;; The same error, and its quick fix.
   (let ((text (buffer-string)))
     (go-to ";\n  archive")
     (delete-char 1)
     (changed)
-    (message-is "rnix: expected \";\" after the value of \"version\", found \"=\"")
+    (message-is "rnix [syntax-error]: expected \";\" after the value of \"version\", found \"=\"\nnote: \";\" is missing here, line 6")
     (go-to "= \"hello-")
     (let* ((place (eglot--pos-to-lsp-position))
            (actions (ask :textDocument/codeAction :range (list :start place :end place) :context '(:diagnostics []))))
@@ -63,7 +63,7 @@
       (eglot--apply-workspace-edit (plist-get (aref actions 0) :edit)))
     (check text (buffer-string) "the text after the quick fix")
     (changed)
-    (message-is "rnix [unused]: `unused` is not used"))
+    (message-is "rnix [unused-name]: `unused` is not used"))
 
   (go-to "archive}")
   (xref-find-definitions (thing-at-point 'symbol))

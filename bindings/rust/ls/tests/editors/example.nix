@@ -1,5 +1,11 @@
 # A package with its tools.
-{ lib, stdenv, fetchurl, openssl, ... }@args:
+{
+  lib,
+  stdenv,
+  fetchurl,
+  openssl,
+  ...
+}@args:
 
 let
   # The version, and the name of the archive.

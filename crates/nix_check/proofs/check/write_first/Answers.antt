@@ -1,5 +1,6 @@
 use Rattle.std.proofs.Common.{ℕ, ◌==◌, List, arith, subst}
-use Rattle.nix_check.{specs.{Items.Item, Listed.Prints, PrintedFindings.{IsPrintedItem, AreFormed}}, proofs.{ListedPieces.none_printed, PrintedDiagnostics.{item_printed, first_items}}}
+use Rattle.nix_lints.specs.Items.{Item}
+use Rattle.nix_check.{specs.{Listed.Prints, PrintedFindings.{IsPrintedItem, AreFormed}}, proofs.{ListedPieces.none_printed, PrintedDiagnostics.{item_printed, first_items}}}
 use Rattle.nix_check.proofs.check.write_first.Goals as goal
 
 pub loop-number-init : goal.loop-number-init

@@ -1,5 +1,6 @@
 use Rattle.std.proofs.Common.{List, take}
-use Rattle.nix_check.specs.{Items.{Item, IsReported}, Listed.Prints, PrintedFindings.AreFormed}
+use Rattle.nix_lints.specs.Items.{Item, IsReported}
+use Rattle.nix_check.specs.{Listed.Prints, PrintedFindings.AreFormed}
 use Rattle.nix_check.proofs.check.write_first.Given as goal
 
 -- the items so far are printed, and the others are still there

@@ -1,6 +1,7 @@
 use Rattle.std.proofs.{Common.{◌≡◌, ℕ, List, length, subst, arith, rules}, lemmas.Bool.Decides.nat_tests}
 use Rattle.std.specs.{List.flat_map, Io.KnownBytes.Appends}
-use Rattle.nix_dead.specs.{declared.dead.Name.Name, Report.name_output}
+use Rattle.nix_lints.specs.declared.unused.UnusedName.{UnusedName}
+use Rattle.nix_dead.specs.Report.{name_output}
 use Rattle.nix_dead.proofs.ReportedNames.{none_reported, some_reported}
 use Rattle.nix_dead.proofs.report.report_names.Goals as goal
 
@@ -18,5 +19,5 @@ returns g c =
     let new = g.W.Write.contents c.write_names.new.out in
     some_reported c.args.is_json c.args.file.now c.args.text.now c.args.root.now start new names (λ none. grind (arith, nat_tests))
     c.in_ok-names.ensures.exactly c.in_ok-names.ensures.order
-    (subst (λ (xs : List Name). Appends start new (flat_map (name_output c.args.is_json c.args.file.now c.args.text.now) xs)) c.deref.ensures.value
+    (subst (λ (xs : List UnusedName). Appends start new (flat_map (name_output c.args.is_json c.args.file.now c.args.text.now) xs)) c.deref.ensures.value
     c.in_ok-write_names.ensures)

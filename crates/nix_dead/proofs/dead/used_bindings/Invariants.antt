@@ -1,5 +1,0 @@
-use Rattle.{std.proofs.Common.take, nix_dead.specs.Dead.AreMarked}
-use Rattle.nix_dead.proofs.dead.used_bindings.Given as goal
-
-abbrev pub invariant-loop-reference : goal.invariant-loop-reference
-invariant-loop-reference l = AreMarked l.count (take l.reference-index l.references) l.is_used.items

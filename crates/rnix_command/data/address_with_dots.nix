@@ -1,0 +1,4 @@
+{
+  security.acme.defaults.email = first.last@example.org;
+  other = 1;
+}

@@ -1,0 +1,4 @@
+{
+  security.acme.defaults.email = me@example.org;
+  other = 1;
+}

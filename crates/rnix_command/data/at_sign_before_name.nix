@@ -1,0 +1,3 @@
+{
+  f = args@ name: name;
+}

@@ -1,0 +1,4 @@
+{
+  imports = [ ./hardware.nix
+  other = 1;
+}

@@ -1,0 +1,4 @@
+{
+  imports = [ ./hardware.nix boot.enable = true; ];
+  other = 1;
+}

@@ -1,0 +1,10 @@
+{ pkgs }:
+{
+  fixupPhase = ''
+    echo fix
+  '';
+  installPhase = ''
+    mkdir -p $out/bin
+  ";
+  name = "demo";
+}

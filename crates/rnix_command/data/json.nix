@@ -1,0 +1,6 @@
+{
+  "name": "demo",
+  "log": { "level": 3 },
+  "files": ["x", "y"],
+  "private": true
+}

@@ -1,0 +1,3 @@
+{
+  virtualHosts."example.org".root = "/var/www"
+}

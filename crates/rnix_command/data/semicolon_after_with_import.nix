@@ -1,0 +1,4 @@
+with import <nixpkgs> { }
+{
+  tools = [ git jq ];
+}

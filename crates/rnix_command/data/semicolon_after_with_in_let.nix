@@ -1,0 +1,5 @@
+{ pkgs, lib }:
+let
+  tools = with pkgs.python3Packages [ numpy scipy ] ++ lib.optional true pkgs.git;
+in
+tools

@@ -1,0 +1,2 @@
+{ pkgs }:
+map (p: p.out) (with pkgs [ git jq ])

@@ -1,0 +1,5 @@
+with import ./lib [ 1 ];
+{
+  a = 1;
+  b = { c = 1 d = 2; };
+}
