@@ -42,7 +42,7 @@ enum rnix_refusal {
     RNIX_NONE_SUCH = -3,  /* there is no such kind, code, name, error, diagnostic, string, range or unit of columns; no other refusal applies then */
     RNIX_TOO_LONG = -4,   /* the text has 2^32 bytes or more; rnix_tokens has no such limit */
     RNIX_HAS_ERRORS = -5, /* the text has errors (rnix_format) */
-    RNIX_DIFFERENT = -6   /* a bug of the formatter: its text would differ in more than white space, or change if formatted again (rnix_format) */
+    RNIX_DIFFERENT = -6   /* a bug of the formatter: its text would differ in more than its layout, or change if formatted again (rnix_format) */
 };
 
 /* A text for a refusal: a string literal. */
@@ -52,7 +52,7 @@ enum rnix_refusal {
      : (answer) == RNIX_NONE_SUCH  ? "there is no such item"                                               \
      : (answer) == RNIX_TOO_LONG   ? "the text has 2^32 bytes or more"                                     \
      : (answer) == RNIX_HAS_ERRORS ? "the text has errors"                                                 \
-     : (answer) == RNIX_DIFFERENT  ? "the new text would differ in more than white space, or change again" \
+     : (answer) == RNIX_DIFFERENT  ? "the new text would differ in more than its layout, or change again" \
                                    : "not refused")
 
 /* An absent offset or number. */
@@ -373,8 +373,8 @@ int64_t rnix_parse_compact(const uint8_t *text, size_t len, struct rnix_range *r
  * text has no errors before the edit, and the edit is between brackets, it often parses only these and copies the rest of the tree, which takes a
  * fraction of the time of a parse.
  * `text` is the text before the edit. `ranges`, `links` and `error_count` are what rnix_parse_compact, or this call, has written for that text:
- * all of its elements. `range_count` and `link_count` are the number of elements that it returned, not the room of the arrays. Nothing of this is
- * checked: with other arrays or numbers, the behavior is undefined.
+ * all of its elements. The arrays may be longer: the first link says how many elements there are, and what follows them is not read. Nothing else is
+ * checked: with other or shorter arrays, or another number of errors, the behavior is undefined.
  * Returns the number of elements of the new tree. Refusals: RNIX_NOT_UTF8 (either text), RNIX_TOO_LONG (either text, or the new one),
  * RNIX_NO_MEMORY; RNIX_NONE_SUCH if `start` is after `end`, or one of them is after the end of the text or inside a character.
  */
@@ -470,8 +470,8 @@ int64_t rnix_names(const uint8_t *text, size_t len, struct rnix_binding *binding
 
 /*
  * Writes what rnix_names writes. If the text has no errors, it is not parsed: `ranges`, `links` and `error_count` are what rnix_parse_compact or
- * rnix_parse_again has written for the text: all of its elements. `range_count` and `link_count` are the number of elements that it returned, not the
- * room of the arrays. Nothing of this is checked: with other arrays or numbers, the behavior is undefined.
+ * rnix_parse_again has written for the text: all of its elements. The arrays may be longer: what follows the elements is not read. Nothing else is
+ * checked: with other or shorter arrays, or another number of errors, the behavior is undefined.
  * Returns the number of bindings. Refusals: RNIX_NOT_UTF8, RNIX_TOO_LONG, RNIX_NO_MEMORY.
  */
 int64_t rnix_names_again(const uint8_t *text, size_t len, const struct rnix_range *ranges, size_t range_count, const struct rnix_link *links,
@@ -481,8 +481,8 @@ int64_t rnix_names_again(const uint8_t *text, size_t len, const struct rnix_rang
 /*
  * Writes what rnix_names and rnix_diagnostics write, and the number of diagnostics to *diagnostic_count (not NULL). A text with errors is parsed
  * once. A text without errors is not parsed: `ranges`, `links` and `error_count` are what rnix_parse_compact or rnix_parse_again has written for the
- * text: all of its elements. `range_count` and `link_count` are the number of elements that it returned, not the room of the arrays. Nothing of this
- * is checked: with other arrays or numbers, the behavior is undefined.
+ * text: all of its elements. The arrays may be longer: what follows the elements is not read. Nothing else is checked: with other or shorter arrays,
+ * or another number of errors, the behavior is undefined.
  * Returns the number of bindings. Refusals: RNIX_NOT_UTF8, RNIX_TOO_LONG, RNIX_NO_MEMORY.
  */
 int64_t rnix_analysis(const uint8_t *text, size_t len, const struct rnix_range *ranges, size_t range_count, const struct rnix_link *links,
@@ -493,7 +493,8 @@ int64_t rnix_analysis(const uint8_t *text, size_t len, const struct rnix_range *
 
 /*
  * Writes a text without errors in the style of Nixpkgs, in UTF-8, without a terminating zero: the same tokens, comments included, with other white
- * space between them, and other indentation of strings in '', whose values stay the same. The new text is read as the same tree but for these.
+ * space between them, other indentation of strings in '', whose values stay the same, other commas in patterns, and other marks of comments (# in
+ * place of / *). The new text is read as the same tree but for these.
  * Returns the number of bytes. Refusals: RNIX_NOT_UTF8, RNIX_TOO_LONG, RNIX_NO_MEMORY; RNIX_HAS_ERRORS, RNIX_DIFFERENT.
  */
 int64_t rnix_format(const uint8_t *text, size_t len, uint8_t *buffer, size_t room);

@@ -1,4 +1,4 @@
-"""The sorts that compare the value of a text before and after a program changed it: format, rename, dead, and the last two of merged sets."""
+"""The sorts that compare the value of a text before and after a program changed it: format, rename, dead, the last two of merged sets, and dead-edit."""
 import json
 import re
 
@@ -151,6 +151,33 @@ class MergedDead(Dead):
 
     NAME = "merged-dead"
     TEXT = staticmethod(merged.text)
+
+
+class DeadEdit:
+    """What rnix dead --edit removes, or writes a `_` before, has no influence on the value. What it leaves is left again."""
+
+    NAME = "dead-edit"
+
+    @staticmethod
+    def make(chance):
+        text = expressions.text(chance) if chance.random() < 0.8 else merged.text(chance)
+        return Case(text, options=chance.choice([[], [], [], ["--underscore"]]))
+
+    @staticmethod
+    def judge(programs, folder, cases):
+        once = programs.run_all("dead", [(["--edit", *it.options], it.text) for it in cases])
+        twice = programs.run_all("dead", [(["--edit", *it.options], ran.out) for it, ran in zip(cases, once)])
+        values = compared(folder, [(it.text, ran.out if ran.status < 2 else None) for it, ran in zip(cases, once)])
+        return [DeadEdit.verdict(*them) for them in zip(cases, once, twice, values)]
+
+    @staticmethod
+    def verdict(case, once, twice, values):
+        command = " ".join(["rnix dead --edit", *case.options])
+        if values:
+            return changed(value_words(*values), command, once, once.out, *values)
+        if once.status < 2 and (twice.status, twice.out) != (once.status, once.out):
+            return Difference("editing again changes it", f"$ {command} | {command}", *shown_text(once.out), "and then", *shown_text(twice.out), f"{twice}")
+        return failed(once, command)
 
 
 def without(root, text, names):

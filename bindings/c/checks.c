@@ -128,10 +128,30 @@ static struct kept kept_of(const char *of) {
     return kept;
 }
 
-/* Parses a text again after an edit, and writes to what is kept. */
+/* Parses a text again after an edit, given arrays with some room after the elements, and writes to what is kept. */
+static int64_t again_in(size_t more, const char *of, const struct kept *old, uint64_t start, uint64_t end, const char *new, struct kept *kept) {
+    const size_t count = (size_t)old->count;
+    return rnix_parse_again((const uint8_t *)of, strlen(of), old->ranges, count + more, old->links, count + (more + 1) / 2, old->error_count, start, end,
+                            (const uint8_t *)new, strlen(new), kept->ranges, 64, kept->links, 64, kept->errors, 16, &kept->error_count);
+}
+
 static int64_t again(const char *of, const struct kept *old, uint64_t start, uint64_t end, const char *new, struct kept *kept) {
-    return rnix_parse_again((const uint8_t *)of, strlen(of), old->ranges, (size_t)old->count, old->links, (size_t)old->count, old->error_count, start,
-                            end, (const uint8_t *)new, strlen(new), kept->ranges, 64, kept->links, 64, kept->errors, 16, &kept->error_count);
+    return again_in(0, of, old, start, end, new, kept);
+}
+
+/* Arrays that are longer than what was written are read as far as it goes. */
+static void check_longer_arrays(void) {
+    static const char of[] = "{ a = [ 1 (b) ]; }";
+    struct kept old = kept_of(of), kept, whole;
+    for (size_t more = 0; more <= 64 - (size_t)old.count; more++) {
+        memset(&kept, 0, sizeof kept);
+        memset(&whole, 0, sizeof whole);
+        memset(old.ranges + old.count, 0x5a, sizeof *old.ranges * (64 - (size_t)old.count));
+        memset(old.links + old.count, 0x5a, sizeof *old.links * (64 - (size_t)old.count));
+        kept.count = again_in(more, of, &old, 8, 9, "c", &kept);
+        whole.count = again(of, &old, 8, 9, "c", &whole);
+        CHECK(kept.count > 0 && memcmp(&kept, &whole, sizeof kept) == 0);
+    }
 }
 
 /* For each range of a text and some replacements: what is written is what is kept of the new text. */
@@ -760,6 +780,7 @@ int main(int argc, char **argv) {
     check_fixes();
     check_names();
     check_names_again();
+    check_longer_arrays();
     check_analysis();
     check_format();
     check_refusals();

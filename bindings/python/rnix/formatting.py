@@ -1,4 +1,4 @@
-"""Texts with other white space, in the style of Nixpkgs, as `rnix format` writes them."""
+"""Texts with another layout, in the style of Nixpkgs, as `rnix format` writes them."""
 
 from __future__ import annotations
 
@@ -11,14 +11,15 @@ from rnix.library import LIBRARY
 class FormatError(Exception):
     """A text that is not formatted.
 
-    It has errors, or the new text would differ in more than white space, or change if formatted again, which is a bug of the formatter.
+    It has errors, or the new text would differ in more than its layout, or change if formatted again, which is a bug of the formatter.
     """
 
 
 def formatted(text: str | bytes) -> str:
     """Returns a text without errors in the style of Nixpkgs: the same tokens, comments included, with other white space between them.
 
-    Strings in '' are indented with the code; their values stay the same. Apart from this, the new text is read as the same tree but for white space.
+    Strings in '' are indented with the code; their values stay the same. Patterns may have other commas, and comments with # may be in place of those in
+    /* */. Apart from this, the new text is read as the same tree but for white space.
     Raises FormatError if the text has errors.
     """
     source = library.source_of(text)
@@ -29,7 +30,7 @@ def formatted(text: str | bytes) -> str:
         if result == library.HAS_ERRORS:
             raise FormatError("the text has errors")
         if result == library.DIFFERENT:
-            raise FormatError("the new text would differ in more than white space, or change again")
+            raise FormatError("the new text would differ in more than its layout, or change again")
         return result
 
     made, count = library.listed(ctypes.c_char, call, guess)

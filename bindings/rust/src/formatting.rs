@@ -1,4 +1,4 @@
-//! Texts with other white space, in the style of Nixpkgs, as `rnix format` writes them.
+//! Texts with another layout, in the style of Nixpkgs, as `rnix format` writes them.
 //!
 //! ```
 //! assert_eq!(rnix::formatting::formatted("{a=1;}").unwrap(), "{ a = 1; }\n");
@@ -15,7 +15,7 @@ use std::fmt;
 pub enum FormatError {
     /// The text has errors.
     HasErrors,
-    /// The new text would differ in more than white space, or change if formatted again. This is a bug of the formatter.
+    /// The new text would differ in more than its layout, or change if formatted again. This is a bug of the formatter.
     Different,
     /// The text was not parsed.
     Refused(Refused),
@@ -25,9 +25,7 @@ impl fmt::Display for FormatError {
     fn fmt(&self, f: &mut fmt::Formatter<'_>) -> fmt::Result {
         match self {
             FormatError::HasErrors => f.write_str("the text has errors"),
-            FormatError::Different => {
-                f.write_str("the new text would differ in more than white space, or change again")
-            }
+            FormatError::Different => f.write_str("the new text would differ in more than its layout, or change again"),
             FormatError::Refused(refused) => refused.fmt(f),
         }
     }
@@ -36,7 +34,8 @@ impl fmt::Display for FormatError {
 impl std::error::Error for FormatError {}
 
 /// Returns a text without errors in the style of Nixpkgs: the same tokens, comments included, with other white space between them. Strings in `''` are
-/// indented with the code; their values stay the same. Apart from this, it is read as the same tree but for white space.
+/// indented with the code; their values stay the same. Patterns may have other commas, and comments with `#` may be in place of those in `/* */`. Apart from
+/// this, it is read as the same tree but for white space.
 ///
 /// # Errors
 /// The text has errors, or memory runs out.

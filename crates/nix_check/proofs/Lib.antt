@@ -4,3 +4,4 @@ pub mod NotesAsText
 pub mod CheckedFiles
 pub mod PrintedExamples
 pub mod AppendedPieces
+pub mod LintFixLemmas

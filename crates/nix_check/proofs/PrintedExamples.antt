@@ -40,35 +40,35 @@ one_more_of_both : more_line (codes "a.nix") true 1 ≡ codes "a.nix: 1 more err
 one_more_of_both = refl
 
 -- the counts and the status without errors, with errors, and with an unread file
-clean_line : count_line record { errors = 0; warnings = 0; unread = 0 } ≡ codes "no errors\n"
+clean_line : count_line record { errors = 0; warnings = 0; faulty = 0; unread = 0 } 1 ≡ codes "no errors\n"
 clean_line = refl
 
-clean_status : status_of false record { errors = 0; warnings = 0; unread = 0 } ≡ 0
+clean_status : status_of false record { errors = 0; warnings = 0; faulty = 0; unread = 0 } ≡ 0
 clean_status = refl
 
-found_status : status_of false record { errors = 2; warnings = 0; unread = 0 } ≡ 1
+found_status : status_of false record { errors = 2; warnings = 0; faulty = 1; unread = 0 } ≡ 1
 found_status = refl
 
-unread_line : count_line record { errors = 0; warnings = 0; unread = 1 } ≡ []
+unread_line : count_line record { errors = 0; warnings = 0; faulty = 0; unread = 1 } 1 ≡ []
 unread_line = refl
 
-unread_status : status_of false record { errors = 0; warnings = 0; unread = 1 } ≡ 2
+unread_status : status_of false record { errors = 0; warnings = 0; faulty = 0; unread = 1 } ≡ 2
 unread_status = refl
 
-both_status : status_of false record { errors = 2; warnings = 0; unread = 1 } ≡ 2
+both_status : status_of false record { errors = 2; warnings = 0; faulty = 1; unread = 1 } ≡ 2
 both_status = refl
 
 -- warnings alone, beside errors, and with `--strict`
-warning_line : count_line record { errors = 0; warnings = 1; unread = 0 } ≡ codes "1 warning\n"
+warning_line : count_line record { errors = 0; warnings = 1; faulty = 1; unread = 0 } 1 ≡ codes "1 warning\n"
 warning_line = refl
 
-both_line : count_line record { errors = 1; warnings = 1; unread = 0 } ≡ codes "1 error, 1 warning\n"
+both_line : count_line record { errors = 1; warnings = 1; faulty = 1; unread = 0 } 1 ≡ codes "1 error, 1 warning\n"
 both_line = refl
 
-warning_status : status_of false record { errors = 0; warnings = 3; unread = 0 } ≡ 0
+warning_status : status_of false record { errors = 0; warnings = 3; faulty = 1; unread = 0 } ≡ 0
 warning_status = refl
 
-strict_status : status_of true record { errors = 0; warnings = 3; unread = 0 } ≡ 1
+strict_status : status_of true record { errors = 0; warnings = 3; faulty = 1; unread = 0 } ≡ 1
 strict_status = refl
 
 -- the lines about the fixes of files
@@ -78,11 +78,11 @@ one_fix = refl
 no_fix : fixes_line (codes "a.nix") 0 ≡ []
 no_fix = refl
 
-none_left : remaining_line record { errors = 0; warnings = 0; unread = 0 } ≡ codes "no errors are left\n"
+none_left : remaining_line record { errors = 0; warnings = 0; faulty = 0; unread = 0 } ≡ codes "no errors are left\n"
 none_left = refl
 
-some_unread : remaining_line record { errors = 0; warnings = 0; unread = 1 } ≡ []
+some_unread : remaining_line record { errors = 0; warnings = 0; faulty = 0; unread = 1 } ≡ []
 some_unread = refl
 
-one_left : remaining_line record { errors = 1; warnings = 0; unread = 1 } ≡ codes "1 error is left\n"
+one_left : remaining_line record { errors = 1; warnings = 0; faulty = 1; unread = 1 } ≡ codes "1 error is left\n"
 one_left = refl

@@ -1,5 +1,5 @@
 -- The report on some files: the output for each, the counts over all files, and the exit status.
-use Rattle.std.specs.Prelude.{◌≡◌, ◌⊎◌, ℕ, ◌==◌, ◌&&◌, List, [], ◌++◌, codes, decimal, Option, Some, None, if◌then◌else◌}
+use Rattle.std.specs.Prelude.{◌≡◌, ◌⊎◌, ℕ, ◌==◌, ◌&&◌, List, [], ◌++◌, codes, decimal, length, nat_lt, Option, Some, None, if◌then◌else◌}
 use Rattle.std.specs.Io.KnownBytes.{Appends, Keeps}
 use Rattle.nix_cli.specs.declared.arguments.TheConstants.{VERSION}
 use Rattle.nix_cli.specs.KnownTexts.{KnownTexts, Agrees}
@@ -50,17 +50,29 @@ numbers_text errors warnings =
     else (if errors == 0 then counted warnings (codes "warning") (codes "warnings")
     else counted errors (codes "error") (codes "errors") ++ codes ", " ++ counted warnings (codes "warning") (codes "warnings"))
 
--- the last line of the text form: the numbers of errors and warnings; there is none if nothing was found and some files could not be read
-abbrev pub count_line : Tally → List ℕ
-count_line tally =
-    if tally.errors == 0 && tally.warnings == 0 then (if tally.unread == 0 then codes "no errors\n" else [])
-    else numbers_text tally.errors tally.warnings ++ codes "\n"
+-- of how many files this is the report, if there are several
+abbrev pub among : ℕ → List ℕ
+among files = if nat_lt files 2 then [] else codes " in " ++ decimal files ++ codes " files"
+
+-- in how many of these files something was found
+abbrev pub found_in : ℕ → ℕ → List ℕ
+found_in faulty files = if nat_lt files 2 then [] else codes " in " ++ decimal faulty ++ codes " of " ++ decimal files ++ codes " files"
+
+-- the last line if nothing was found; there is none if some files could not be read
+abbrev pub clean_line : ℕ → ℕ → List ℕ
+clean_line unread files = if unread == 0 then codes "no errors" ++ (among files ++ codes "\n") else []
+
+-- the last line of the text form: the numbers of errors and warnings, and of files
+abbrev pub count_line : Tally → ℕ → List ℕ
+count_line tally files =
+    if tally.errors == 0 && tally.warnings == 0 then clean_line tally.unread files
+    else numbers_text tally.errors tally.warnings ++ (found_in tally.faulty files ++ codes "\n")
 
 -- the output after the last file
-abbrev pub report_tail : Format → Tally → List ℕ
-report_tail form.Text tally = count_line tally
-report_tail form.Json tally = []
-report_tail form.Sarif tally = sarif_tail (tally.unread == 0)
+abbrev pub report_tail : Format → Tally → ℕ → List ℕ
+report_tail form.Text tally files = count_line tally files
+report_tail form.Json tally files = []
+report_tail form.Sarif tally files = sarif_tail (tally.unread == 0)
 
 -- the report on some files
 pub record IsReport (style : Style) (texts : KnownTexts) (failed : ℕ) (files : List (List ℕ)) (old new : Option (List ℕ)) (status : ℕ) : Type 0 where
@@ -69,5 +81,5 @@ pub record IsReport (style : Style) (texts : KnownTexts) (failed : ℕ) (files :
   pub tally : Tally
   pub head : Appends old begun (report_head style.format)
   pub checked : AreChecked style texts failed begun files done tally
-  pub tail : Appends done new (report_tail style.format tally)
+  pub tail : Appends done new (report_tail style.format tally (length files))
   pub status_is : status ≡ status_of style.is_strict tally

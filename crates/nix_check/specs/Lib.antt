@@ -5,4 +5,5 @@ pub mod AsSarif
 pub mod PrintedFindings
 pub mod Tallies
 pub mod ErrorReport
+pub mod LintFixes
 pub mod Fixing

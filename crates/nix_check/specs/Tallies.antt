@@ -6,13 +6,22 @@ use Rattle.nix_check.specs.declared.tally.{Tally.Tally, Counts.Counts}
 abbrev pub plus : ℕ → ℕ → ℕ
 plus a b = min (a + b) (2 ^ 64 - 1)
 
+-- nothing was found in a text
+abbrev pub is_clean : Counts → Bool
+is_clean counts = counts.errors == 0 && counts.warnings == 0
+
 -- the counts with those of a text; the counts with one more unread file
 abbrev pub with_counts : Tally → Counts → Tally
 with_counts tally counts =
-    record { errors = plus tally.errors counts.errors; warnings = plus tally.warnings counts.warnings; unread = tally.unread }
+    record {
+      errors = plus tally.errors counts.errors;
+      warnings = plus tally.warnings counts.warnings;
+      faulty = plus tally.faulty (if is_clean counts then 0 else 1);
+      unread = tally.unread;
+    }
 
 abbrev pub with_unread : Tally → Tally
-with_unread tally = record { errors = tally.errors; warnings = tally.warnings; unread = plus tally.unread 1 }
+with_unread tally = record { errors = tally.errors; warnings = tally.warnings; faulty = tally.faulty; unread = plus tally.unread 1 }
 
 -- the diagnostics that were found so far
 abbrev pub found_by : Tally → ℕ
@@ -30,6 +39,6 @@ TalliedEffect = List ℕ → Tally → Option (List ℕ) → Option (List ℕ) �
 -- this happens to each of some files, one after another. Before the first one there are no errors and warnings, and as many unread files as folders that could
 -- not be read
 pub data AreTallied (Effect : TalliedEffect) (failed : ℕ) (old : Option (List ℕ)) : List (List ℕ) → Option (List ℕ) → Tally → Type 0 where
-  none_tallied : AreTallied Effect failed old [] old record { errors = 0; warnings = 0; unread = failed }
+  none_tallied : AreTallied Effect failed old [] old record { errors = 0; warnings = 0; faulty = 0; unread = failed }
   one_tallied : (files : List (List ℕ)) (mid new : Option (List ℕ)) (before after : Tally) (file : List ℕ) →
       AreTallied Effect failed old files mid before → Effect file before mid new after → AreTallied Effect failed old (files ++ file ∷ []) new after

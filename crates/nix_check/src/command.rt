@@ -36,8 +36,10 @@ few places: the page nix.md lists them, and the page lints.md the lints.
     --strict   end with 1 if there are warnings, too
     --unused   report the names that nothing uses, too, as warnings
     --disable CODE  leave out a lint, such as needless-parentheses; may be given several times
-    --fix      write what the notes on the errors propose, wherever a file then has fewer errors: to FILE.new, which is then renamed, or the text
-               of standard input to standard output. The number of fixes and the errors that are left are printed on standard error
+    --fix      write what the notes on the errors propose, wherever a file then has fewer errors, and in a file without errors what the notes on
+               findings propose, wherever each name then means the same: to FILE.new, which is then renamed, or the text of standard input to
+               standard output. The number of fixes and the errors that are left are printed on standard error
+    --diff     with --fix: print what would change as a unified diff, on standard output, and write no file
     --exclude GLOB  leave out what GLOB names in a folder, as a line of a .gitignore there does; may be given several times
     --color WHEN    use colors: auto (at a terminal, unless NO_COLOR is set), always or never
 ",
@@ -45,7 +47,7 @@ few places: the page nix.md lists them, and the page lints.md the lints.
 Ends with 0 if there are no errors, or none are left, 1 if there are some, or warnings with --strict, 2 if something could not be read or written.
 ",
     flags: &[
-        "--all", "--json", "--sarif", "--strict", "--unused", "--fix",
+        "--all", "--json", "--sarif", "--strict", "--unused", "--fix", "--diff",
     ],
     has_colors: true,
     has_excludes: true,
@@ -80,6 +82,7 @@ fn style_of<'a>(
         },
         is_each: arguments.has("--all"),
         is_strict: arguments.has("--strict"),
+        prints_diff: arguments.has("--diff"),
         format,
         is_colored: is_colored(rt, arguments),
         disabled,
@@ -110,6 +113,8 @@ fn wrong_with(arguments: &Arguments) -> Option<&'static str> {
         Some("--json and --sarif exclude each other")
     } else if arguments.has("--fix") && is_other {
         Some("--fix and --json or --sarif exclude each other")
+    } else if arguments.has("--diff") && !arguments.has("--fix") {
+        Some("--diff needs --fix")
     } else {
         None
     }

@@ -3,24 +3,54 @@
 ghost use Rattle.std.specs.Prelude.{◌≡◌, ℕ, List, false, codes, map, string_bytes, IfOk, OnOk, IsFalse};
 ghost use Rattle.std.specs.{Str.bytes_eq, Io.KnownBytes.Appends};
 ghost use Rattle.nix_check.specs.Tallies.{AreTallied};
-ghost use Rattle.nix_check.specs.Fixing.{fixes_line, remaining_line, IsFixOf, IsTextFixed, IsFileFixed, AreFixed};
+ghost use Rattle.nix_check.specs.Fixing.{fixes_line, remaining_line, disabled_by, IsFixOf, IsTextFixed, IsFileFixed, AreFixed};
 
 use crate::check::check_text;
 use crate::command::COMMAND;
+use crate::lint_fixes::{LintFixed, lint_fixed};
 use crate::style::Style;
 use crate::tally::{Counts, Tally};
 use nix_cli::{Files, TextReader, display_name, replace_text};
-use nix_fixes::{FixedText, fixed};
-use std::alloc::Global;
+use nix_diff::unified_diff;
+use nix_fixes::fixed;
+use std::alloc::{AllocError, Global};
 use std::io::{self, Write};
 
 // The greatest number of diagnostics of a file for which fixes are tried. Each attempt takes about as long as checking the file.
 const MAX_TRIED: usize = 1000;
 
-// Writes a fixed text: to its file if it has fixes, or to standard output if it was read from standard input. Reports what fails.
-fn write_fixed(rt: &HostRuntime, name: &str, made: &FixedText) -> io::Result<bool>
+// Returns a text with fixes: of its errors, and if none are left, of what lints find.
+fn fixed_text(alloc: Global, text: &str, disabled: &[String]) -> Result<LintFixed, AllocError>
+    ensures { IfOk result (λ made. IsFixOf (map string_bytes disabled.now) text.now made.fixes (string_bytes made.text)) }
+{
+    let first = fixed(alloc, text, MAX_TRIED)?;
+    let then = lint_fixed(alloc, first.text.as_str(), disabled, MAX_TRIED)?;
+    Ok(LintFixed {
+        text: then.text,
+        fixes: first.fixes.saturating_add(then.fixes),
+    })
+}
+
+// Prints the diff of a text and its fixed text.
+fn write_diff(rt: &HostRuntime, name: &str, text: &str, made: &str) -> io::Result<()> {
+    let diff = unified_diff(rt.alloc(), display_name(name), text, made)?;
+    rt.stdout().write_all(diff.as_bytes())
+}
+
+// Writes a fixed text: to its file if it has fixes, or to standard output if it was read from standard input. Reports what fails. Or prints only what changed.
+fn write_fixed(
+    rt: &HostRuntime,
+    name: &str,
+    text: &str,
+    made: &LintFixed,
+    prints_diff: bool,
+) -> io::Result<bool>
     ensures { IfOk result (λ is_written. IsFalse is_written → (bytes_eq name.now (codes "-") ≡ false) × ¬ (made.now.fixes ≡ 0)) }
 {
+    if prints_diff {
+        write_diff(rt, name, text, made.text.as_str())?;
+        return Ok(true);
+    }
     if name == "-" {
         rt.stdout().write_all(made.text.as_bytes())?;
         return Ok(true);
@@ -52,11 +82,11 @@ fn write_fixes<W: Write>(name: &str, fixes: usize, out: &mut W) -> io::Result<()
 fn write_result<W: Write>(
     alloc: Global,
     name: &str,
-    made: &FixedText,
+    made: &LintFixed,
     style: Style<'_>,
     out: &mut W,
 ) -> io::Result<Counts>
-    ensures { IfOk result (λ remaining. (text : List ℕ) → IsFixOf text made.now →
+    ensures { IfOk result (λ remaining. (text : List ℕ) → IsFixOf (disabled_by style.entry) text made.now.fixes (string_bytes made.now.text) →
         IsTextFixed style.entry name.now text (W.contents out.old) (W.contents out.new) remaining) }
 {
     write_fixes(name, made.fixes, out)?;
@@ -80,8 +110,8 @@ fn fix_file<R: TextReader, W: Write>(
     let Some(text) = reader.read_text(rt, &COMMAND, name, out)? else {
         return Ok(tally.with_unread());
     };
-    let made = fixed(rt.alloc(), text.as_str(), MAX_TRIED)?;
-    if !write_fixed(rt, name, &made)? {
+    let made = fixed_text(rt.alloc(), text.as_str(), style.disabled)?;
+    if !write_fixed(rt, name, text.as_str(), &made, style.prints_diff)? {
         return Ok(tally.with_unread());
     }
     let remaining = write_result(rt.alloc(), display_name(name), &made, style, out)?;
@@ -102,6 +132,7 @@ fn fix_each<R: TextReader, W: Write>(
     let mut tally = Tally {
         errors: 0,
         warnings: 0,
+        faulty: 0,
         unread: files.failed,
     };
     for number in 0..files.names.len() {

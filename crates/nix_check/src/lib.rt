@@ -7,6 +7,7 @@ mod command;
 mod disabled;
 mod fixing;
 mod json;
+mod lint_fixes;
 mod report;
 mod sarif;
 mod style;

@@ -2,7 +2,7 @@
 
 ghost use Rattle.std.specs.Prelude.{◌≡◌, map, string_bytes, IfOk, OnOk};
 ghost use Rattle.std.specs.Io.KnownBytes.{Appends};
-ghost use Rattle.nix_check.specs.ErrorReport.{counted, numbers_text, count_line, report_head, report_tail, IsTextCounted, IsFileCounted, AreChecked, IsReport};
+ghost use Rattle.nix_check.specs.ErrorReport.{counted, numbers_text, among, found_in, clean_line, count_line, report_head, report_tail, IsTextCounted, IsFileCounted, AreChecked, IsReport};
 
 use crate::check::check_text;
 use crate::command::COMMAND;
@@ -88,6 +88,7 @@ fn check_files<R: TextReader, W: Write>(
     let mut tally = Tally {
         errors: 0,
         warnings: 0,
+        faulty: 0,
         unread: files.failed,
     };
     for number in 0..files.names.len() {
@@ -135,27 +136,58 @@ fn write_numbers<W: Write>(errors: usize, warnings: usize, out: &mut W) -> io::R
     write_number(warnings, "warning", "warnings", out)
 }
 
-// Writes the last line, the numbers of errors and warnings. There is no such line if nothing was found but some files could not be read.
-fn write_count<W: Write>(tally: Tally, out: &mut W) -> io::Result<()>
-    ensures { OnOk result (Appends (W.contents out.old) (W.contents out.new) (count_line tally)) }
+// Writes of how many files this is the report, if there are several.
+fn write_among<W: Write>(files: usize, out: &mut W) -> io::Result<()>
+    ensures { OnOk result (Appends (W.contents out.old) (W.contents out.new) (among files)) }
+{
+    if files < 2 {
+        Ok(())
+    } else {
+        write!(out, " in {files} files")
+    }
+}
+
+// Writes in how many of these files something was found.
+fn write_found_in<W: Write>(faulty: usize, files: usize, out: &mut W) -> io::Result<()>
+    ensures { OnOk result (Appends (W.contents out.old) (W.contents out.new) (found_in faulty files)) }
+{
+    if files < 2 {
+        Ok(())
+    } else {
+        write!(out, " in {faulty} of {files} files")
+    }
+}
+
+// Writes the last line if nothing was found. There is no such line if some files could not be read.
+fn write_clean<W: Write>(unread: usize, files: usize, out: &mut W) -> io::Result<()>
+    ensures { OnOk result (Appends (W.contents out.old) (W.contents out.new) (clean_line unread files)) }
+{
+    if unread > 0 {
+        return Ok(());
+    }
+    out.write_all(b"no errors")?;
+    write_among(files, out)?;
+    out.write_all(b"\n")
+}
+
+// Writes the last line, the numbers of errors and warnings, and of files.
+fn write_count<W: Write>(tally: Tally, files: usize, out: &mut W) -> io::Result<()>
+    ensures { OnOk result (Appends (W.contents out.old) (W.contents out.new) (count_line tally files)) }
 {
     if tally.errors == 0 && tally.warnings == 0 {
-        return out.write_all(if tally.unread == 0 {
-            b"no errors\n"
-        } else {
-            b""
-        });
+        return write_clean(tally.unread, files, out);
     }
     write_numbers(tally.errors, tally.warnings, out)?;
+    write_found_in(tally.faulty, files, out)?;
     out.write_all(b"\n")
 }
 
 // Writes what follows the errors of the last file.
-fn write_end<W: Write>(format: Format, tally: Tally, out: &mut W) -> io::Result<()>
-    ensures { OnOk result (Appends (W.contents out.old) (W.contents out.new) (report_tail format tally)) }
+fn write_end<W: Write>(format: Format, tally: Tally, files: usize, out: &mut W) -> io::Result<()>
+    ensures { OnOk result (Appends (W.contents out.old) (W.contents out.new) (report_tail format tally files)) }
 {
     match format {
-        Format::Text => write_count(tally, out),
+        Format::Text => write_count(tally, files, out),
         Format::Json => Ok(()),
         Format::Sarif => write_tail(tally.unread == 0, out),
     }
@@ -174,6 +206,6 @@ pub fn report_files<R: TextReader, W: Write>(
 {
     write_start(style.format, out)?;
     let tally = check_files(rt, reader, files, style, out)?;
-    write_end(style.format, tally, out)?;
+    write_end(style.format, tally, files.names.len(), out)?;
     Ok(tally.status(style.is_strict))
 }

@@ -11,7 +11,7 @@ pub enum Format {
     Sarif,
 }
 
-/// Options for finding and printing diagnostics.
+/// Options for finding, printing and fixing what diagnostics report.
 #[derive(Clone, Copy)]
 pub struct Style<'a> {
     /// The greatest number of diagnostics of a file that are printed.
@@ -20,6 +20,8 @@ pub struct Style<'a> {
     pub is_each: bool,
     /// Whether warnings count for the exit status as errors do.
     pub is_strict: bool,
+    /// Whether fixes are printed as a diff, and files are left as they are.
+    pub prints_diff: bool,
     /// Their form.
     pub format: Format,
     /// Whether the text is colored.

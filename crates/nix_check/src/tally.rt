@@ -1,7 +1,7 @@
 //! The counts over all files, and the exit status.
 
-ghost use Rattle.std.specs.Prelude.{◌≡◌};
-ghost use Rattle.nix_check.specs.Tallies.{with_counts, with_unread, found_by, status_of};
+ghost use Rattle.std.specs.Prelude.{◌≡◌, if◌then◌else◌};
+ghost use Rattle.nix_check.specs.Tallies.{is_clean, with_counts, with_unread, found_by, status_of};
 
 use nix_cli::{FAILED, FOUND};
 
@@ -14,6 +14,19 @@ pub struct Counts {
     pub warnings: usize,
 }
 
+impl Counts {
+    // Returns the number of files in which something was found: this one, or none.
+    fn faulty(self) -> usize
+        ensures { result ≡ (if is_clean self then 0 else 1) }
+    {
+        if self.errors == 0 && self.warnings == 0 {
+            0
+        } else {
+            1
+        }
+    }
+}
+
 /// The counts over all files.
 #[derive(Clone, Copy)]
 pub struct Tally {
@@ -21,6 +34,8 @@ pub struct Tally {
     pub errors: usize,
     /// Warnings that were found.
     pub warnings: usize,
+    /// Files in which something was found.
+    pub faulty: usize,
     /// Files and folders that could not be read or written.
     pub unread: usize,
 }
@@ -33,6 +48,7 @@ impl Tally {
         Tally {
             errors: self.errors.saturating_add(counts.errors),
             warnings: self.warnings.saturating_add(counts.warnings),
+            faulty: self.faulty.saturating_add(counts.faulty()),
             unread: self.unread,
         }
     }
@@ -44,6 +60,7 @@ impl Tally {
         Tally {
             errors: self.errors,
             warnings: self.warnings,
+            faulty: self.faulty,
             unread: self.unread.saturating_add(1),
         }
     }

@@ -109,6 +109,20 @@ fn write_severe<W: Write>(
     }
 }
 
+// Returns where the carets of a diagnostic end: with its range, or with what a note proposes to replace at the beginning of the range.
+fn marked_end(diagnostic: &Diagnostic) -> usize {
+    let range = diagnostic.range;
+    for note in &diagnostic.notes {
+        if let (None, Some(replacement)) = (note.range, note.replacement) {
+            let replaced = replacement.range;
+            if replaced.start() == range.start() && !replaced.is_empty() {
+                return replaced.end().min(range.end());
+            }
+        }
+    }
+    range.end()
+}
+
 /// Writes a diagnostic: its location, message, line with carets, and notes.
 pub fn write_text<W: Write>(
     source: &Source<'_>,
@@ -120,7 +134,7 @@ pub fn write_text<W: Write>(
     ensures { OnOk result
         (Prints (IsText is_colored source.now.name.now source.now.text.now diagnostic.now) (W.contents out.old) (W.contents out.new)) }
 {
-    let (start, end) = (diagnostic.range.start(), diagnostic.range.end());
+    let (start, end) = (diagnostic.range.start(), marked_end(diagnostic));
     write_source_location(source, start, out)?;
     let severity = diagnostic.code.severity();
     write_severe(severity, diagnostic.message.as_str(), is_colored, out)?;

@@ -9,6 +9,8 @@ use crate::ending::FAILED;
 use crate::file_replacement::replace_text;
 use crate::folders::{Links, files_below};
 use crate::ignores::bad_exclude;
+use std::alloc::{AllocError, Global};
+use std::collections::BTreeSet;
 use std::io::Write;
 use std::{fs, io};
 
@@ -98,8 +100,8 @@ pub fn find_files(rt: &HostRuntime, command: &Command, arguments: &Arguments) ->
 
 /// Returns the files that the arguments name, for [`TextReader::read_text`]. `-` and no names mean standard input. A folder means the regular files in it, and
 /// in the folders in it, whose names end with `.nix`, and symbolic links with such names to regular files or to nothing; anything else with such a name is
-/// skipped and reported. What `.gitignore` files or `--exclude` name is left out. Any other name is a file. A folder that cannot be read is reported and
-/// counted.
+/// skipped and reported. What `.gitignore` files or `--exclude` name is left out. Any other name is a file. A file that is named again is left out. A folder
+/// that cannot be read is reported and counted.
 pub fn find_inputs(
     rt: &HostRuntime,
     command: &Command,
@@ -108,8 +110,45 @@ pub fn find_inputs(
     inputs_of(rt, command, arguments, Links::Read)
 }
 
-// Returns the files that the arguments name.
+// Returns the names, each file only once: `./a.nix` and `a.nix` name the same file, and so does the folder around it.
+fn each_once(alloc: Global, names: Vec<String>) -> Result<Vec<String>, AllocError> {
+    let mut seen = BTreeSet::new(alloc);
+    let mut once = Vec::new(alloc);
+    for name in names {
+        // Standard input is no file.
+        let file = if name.as_str() == "-" {
+            ""
+        } else {
+            name.as_str().trim_start_matches("./")
+        };
+        if seen.insert(String::from_str(alloc, file)?)? {
+            once.push(name)?;
+        }
+    }
+    Ok(once)
+}
+
+// Returns the files that the arguments name, each only once.
 fn inputs_of(
+    rt: &HostRuntime,
+    command: &Command,
+    arguments: &Arguments,
+    links: Links,
+) -> io::Result<Inputs> {
+    let Inputs { files, are_regular } = all_inputs(rt, command, arguments, links)?;
+    if arguments.words.len() < 2 {
+        return Ok(Inputs { files, are_regular });
+    }
+    let failed = files.failed;
+    let names = each_once(rt.alloc(), files.names)?;
+    Ok(Inputs {
+        files: Files { names, failed },
+        are_regular,
+    })
+}
+
+// Returns the files that the arguments name, some perhaps several times.
+fn all_inputs(
     rt: &HostRuntime,
     command: &Command,
     arguments: &Arguments,

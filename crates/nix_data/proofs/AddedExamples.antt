@@ -10,50 +10,50 @@ use Rattle.nix_data.specs.Scalars.{integer_of}
 use Rattle.nix_data.specs.Added.{added, values_of, HasData}
 
 -- the tree of a text with an expression
-abbrev root : (Forest → Forest) → Located
+abbrev pub root : (Forest → Forest) → Located
 root expression = record { tree = record { kind = k.NODE_ROOT; children = expression empty }; number = 0 }
 
 -- an identifier, an integer, a negative integer, and an expression in parentheses
-abbrev ident : List ℕ → Forest → Forest
+abbrev pub ident : List ℕ → Forest → Forest
 ident name f = node k.NODE_IDENT (leaf k.TOKEN_IDENT name empty) f
 
-abbrev number : List ℕ → Forest → Forest
+abbrev pub number : List ℕ → Forest → Forest
 number digits f = node k.NODE_LITERAL (leaf k.TOKEN_INTEGER digits empty) f
 
-abbrev negative : List ℕ → Forest → Forest
+abbrev pub negative : List ℕ → Forest → Forest
 negative digits f = node k.NODE_UNARY_OP (leaf k.TOKEN_SUB (codes "-") (number digits empty)) f
 
-abbrev in_parens : (Forest → Forest) → Forest → Forest
+abbrev pub in_parens : (Forest → Forest) → Forest → Forest
 in_parens inner f = node k.NODE_PAREN (leaf k.TOKEN_L_PAREN (codes "(") (inner (leaf k.TOKEN_R_PAREN (codes ")") empty))) f
 
 -- a list, a set, and an entry of a set
-abbrev a_list : (Forest → Forest) → Forest → Forest
+abbrev pub a_list : (Forest → Forest) → Forest → Forest
 a_list items f = node k.NODE_LIST (leaf k.TOKEN_L_BRACK (codes "[") (items (leaf k.TOKEN_R_BRACK (codes "]") empty))) f
 
-abbrev a_set : (Forest → Forest) → Forest → Forest
+abbrev pub a_set : (Forest → Forest) → Forest → Forest
 a_set entries f = node k.NODE_ATTR_SET (leaf k.TOKEN_L_BRACE (codes "{") (entries (leaf k.TOKEN_R_BRACE (codes "}") empty))) f
 
-abbrev entry : Forest → (Forest → Forest) → Forest → Forest
+abbrev pub entry : Forest → (Forest → Forest) → Forest → Forest
 entry path value f = node k.NODE_ATTRPATH_VALUE (node k.NODE_ATTRPATH path
     (leaf k.TOKEN_ASSIGN (codes "=") (value (leaf k.TOKEN_SEMICOLON (codes ";") empty)))) f
 
-abbrev one : List ℕ → Forest
+abbrev pub one : List ℕ → Forest
 one name = ident name empty
 
-abbrev two : List ℕ → List ℕ → Forest
+abbrev pub two : List ℕ → List ℕ → Forest
 two first second = ident first (leaf k.TOKEN_DOT (codes ".") (ident second empty))
 
-abbrev three : List ℕ → List ℕ → List ℕ → Forest
+abbrev pub three : List ℕ → List ℕ → List ℕ → Forest
 three first second third = ident first (leaf k.TOKEN_DOT (codes ".") (two second third))
 
 -- a value in no other value, and one inside another
-abbrev outer : Plain → Built
+abbrev pub outer : Plain → Built
 outer plain = record { parent = None; name = []; plain = plain }
 
-abbrev within : ℕ → List ℕ → Plain → Built
+abbrev pub within : ℕ → List ℕ → Plain → Built
 within parent name plain = record { parent = Some parent; name = name; plain = plain }
 
-abbrev at : ℕ → List ℕ → Plain → Entry
+abbrev pub at : ℕ → List ℕ → Plain → Entry
 at depth name plain = record { depth = depth; name = name; plain = plain }
 
 -- {a.b=1;a.c=2;}

@@ -7,7 +7,7 @@ use Rattle.rnix_green.specs.Tree.{Located, item_of}
 use Rattle.rnix_green.specs.Walk.{nodes_in, children_of}
 use Rattle.nix_values.specs.Built.{Built}
 use Rattle.nix_data.specs.Meaning.{key_of}
-use Rattle.nix_data.specs.Added.{Place, attribute, set_from, path_from, path_in, scalar_begun, begun_as, begun, place_for, place_after, all_added, inside_added, added}
+use Rattle.nix_data.specs.Added.{Place, attribute, set_from, scalar_begun, begun_as, begun, place_for, place_after, all_added, inside_added, added}
 
 -- what a node and the nodes inside it add, given what the node itself adds
 added_next : (levels : ℕ) (place : Place) (e : Located) (old : List Built) (first : Option Place × List Built) → begun place e old ≡ Some first →
@@ -61,8 +61,3 @@ left_refused add place own remaining after e values whole first at_own none left
 pub left_none : (add : Place → Located → List Built → Option (List Built)) (place : Place) (remaining : List Located) (values : List Built)
     (whole : Option (List Built)) → remaining ≡ [] → IsLeft add place remaining values whole → whole ≡ Some values
 left_none add place remaining values whole none left = sym left ∙ ap (λ nodes. all_added add place nodes values) none
-
--- the place to which a path leads from the last name that was read, or from a set before the first name
-abbrev pub path_left : ℕ → ℕ → Option (List ℕ) → List Located → List Built → Option (Place × List Built)
-path_left first number None attributes values = path_in first number attributes values
-path_left first number (Some name) attributes values = path_from first number name attributes values

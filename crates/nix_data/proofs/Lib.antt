@@ -2,6 +2,8 @@ pub mod DifferentNames
 pub mod MeaningLemmas
 pub mod RefusalLemmas
 pub mod AddedLemmas
+pub mod SelectionLemmas
+pub mod SelectionExamples
 pub mod ScalarsLemmas
 pub mod WrittenLemmas
 pub mod UniqueLemmas

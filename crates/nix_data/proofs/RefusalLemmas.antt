@@ -20,3 +20,8 @@ pub reads_none : {X U : Type 0} (result : Result X Stop) (wanted other : Option 
     Reads result wanted view → Refuses result (P → other ≡ None)
 reads_none (Ok found) wanted other view P same h = tt
 reads_none (Err error) wanted other view P same h = λ refused p. same ∙ h refused
+
+pub reads_same : {X U : Type 0} (result : Result X Stop) (error : Stop) (wanted : Option U) (view : X → U) → IsErrAnd result (λ other. other ≡ error) →
+    (is_refusal error ≡ true → wanted ≡ None) → Reads result wanted view
+reads_same (Ok found) error wanted view same h = absurd same
+reads_same (Err other) error wanted view same h = λ refused. h (ap is_refusal (sym same) ∙ refused)

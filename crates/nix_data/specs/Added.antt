@@ -1,5 +1,5 @@
 -- The values that a Nix text defines: those that its expression adds to an empty list. The attributes of a set may be defined in several places.
-use Rattle.std.specs.Prelude.{◌≡◌, ℕ, zero, suc, nat_le, Bool, true, ◌&&◌, List, [], ◌∷◌, ◌++◌, length, Option, Some, None, is_some, option_map, option_and_then, if◌then◌else◌}
+use Rattle.std.specs.Prelude.{◌≡◌, ◌==◌, ℕ, zero, suc, nat_le, Bool, true, ◌&&◌, List, [], ◌∷◌, ◌++◌, length, Option, Some, None, is_some, option_map, option_and_then, if◌then◌else◌}
 use Rattle.rnix_kinds.specs.declared.kinds.SyntaxKind.{SyntaxKind}
 use Rattle.rnix_kinds.specs.declared.kinds.SyntaxKind.TheVariants as k
 use Rattle.rnix_green.specs.Equality.{same_kind}
@@ -37,9 +37,9 @@ name_at (inside number first) = []
 name_at (attribute number name) = name
 name_at nowhere = []
 
--- the value that is already at a place: the attribute with this name
+-- the value that is already at a place: the outermost value, which is the first one, or the attribute with this name
 abbrev pub present_at : Place → List Built → Option ℕ
-present_at outermost values = None
+present_at outermost values = if length values == 0 then None else Some 0
 present_at (inside number first) values = None
 present_at (attribute number name) values = attribute_of values number name
 present_at nowhere values = None
@@ -94,6 +94,11 @@ path_from first number name (next ∷ attributes) values =
 abbrev pub path_in : ℕ → ℕ → List Located → List Built → Option (Place × List Built)
 path_in first number [] values = None
 path_in first number (attr ∷ attributes) values = option_and_then (λ name. path_from first number name attributes values) (key_of attr)
+
+-- the place to which the rest of a path leads from the last name before it, or from a set
+abbrev pub path_left : ℕ → ℕ → Option (List ℕ) → List Located → List Built → Option (Place × List Built)
+path_left first number None attributes values = path_in first number attributes values
+path_left first number (Some name) attributes values = path_from first number name attributes values
 
 -- the place at which an entry in a set adds its value
 abbrev pub entry_place : Place → Located → List Built → Option (Place × List Built)

@@ -6,3 +6,6 @@ pub mod Added
 pub mod Places
 pub mod Refusals
 pub mod Written
+pub mod Selection
+pub mod SelectedData
+pub mod Definitions

@@ -4,11 +4,11 @@ ghost use Rattle.std.specs.Prelude.{◌≡◌, false, true, Some, None, option_m
 ghost use Rattle.std.specs.List.{list_any};
 ghost use Rattle.rnix_kinds.specs.declared.kinds.SyntaxKind.TheVariants as k;
 ghost use Rattle.rnix_green.specs.Walk.{elements_of};
-ghost use Rattle.rnix_base.specs.Select.{HasKind, nodes_of};
+ghost use Rattle.rnix_base.specs.Select.{HasKind, those_of, nodes_of};
 ghost use Rattle.rnix.specs.NodeKinds.{is_attr};
 ghost use Rattle.rnix.specs.Sums.{attr_node};
 ghost use Rattle.nix_values.specs.Contents.{plain_of, contents};
-ghost use Rattle.nix_data.specs.Added.{path_in, scalar_begun, begun_as, begun, added, HasData, HasNoData};
+ghost use Rattle.nix_data.specs.Added.{path_in, path_left, scalar_begun, begun_as, begun, added, HasData, HasNoData};
 ghost use Rattle.nix_data.specs.Meaning.{key_of};
 ghost use Rattle.nix_data.specs.Scalars.{scalar_of};
 ghost use Rattle.nix_data.specs.Misread.{is_misread_at, IsReadAlike};
@@ -20,22 +20,24 @@ use crate::no_data::{NoData, Reason};
 use crate::scalars::{Stop, evaluated, key, no_data, scalar};
 use crate::values::{Entry, Frame, Name, Target, Values};
 use nix_values::{Data, Value};
-use rnix::ast::{AstNode, Attr, AttrSet, Attrpath, AttrpathValue, Inherit};
+use rnix::ast::{AstChildren, AstNode, Attr, AttrSet, Attrpath, AttrpathValue, Inherit};
 use rnix::{NodeOrToken, Root, SyntaxKind, SyntaxNode, TextRange};
 use std::alloc::{AllocError, Global};
 
-// The largest number of levels of nodes that are read. The parser accepts fewer: a list or a set is at most two levels below the one around it.
-const LEVELS: usize = 2048;
+/// The largest number of levels of nodes that are read. The parser accepts fewer: a list or a set is at most two levels below the one around it.
+pub const LEVELS: usize = 2048;
 
-// How a text is read. If it is lossy, what is not data becomes its source.
+/// How a text is read. If it is lossy, what is not data becomes its source.
 #[derive(Clone, Copy)]
-struct Reader {
-    alloc: Global,
-    is_lossy: bool,
+pub struct Reader {
+    /// The allocator.
+    pub alloc: Global,
+    /// Whether the text is read lossily.
+    pub is_lossy: bool,
 }
 
-// Returns the first token that Nix reads differently, with the reason, if there is one.
-fn first_misread(root: &SyntaxNode<'_>) -> Option<NoData>
+/// Returns the first token that Nix reads differently, with the reason, if there is one.
+pub fn first_misread(root: &SyntaxNode<'_>) -> Option<NoData>
     ensures { is_some result ≡ list_any is_misread_at (elements_of root.now) }
 {
     for element in root.descendants_with_tokens() {
@@ -48,8 +50,8 @@ fn first_misread(root: &SyntaxNode<'_>) -> Option<NoData>
     None
 }
 
-// Returns why a text with a token that Nix reads differently is refused: for this token, or for a part before it that is not data.
-fn first_stop(outcome: Result<(), Stop>, token: NoData) -> Stop {
+/// Returns why a text with a token that Nix reads differently is refused: for this token, or for a part before it that is not data.
+pub fn first_stop(outcome: Result<(), Stop>, token: NoData) -> Stop {
     match outcome {
         Err(Stop::Memory) => Stop::Memory,
         Err(Stop::NoData(part)) if part.range.start() <= token.range.start() => Stop::NoData(part),
@@ -58,7 +60,7 @@ fn first_stop(outcome: Result<(), Stop>, token: NoData) -> Stop {
 }
 
 impl Reader {
-    ghost use Rattle.nix_data.specs.Places.{place_of, values_read};
+    ghost use Rattle.nix_data.specs.Places.{name_bytes, place_of, values_read};
 
     // Returns the source of what is not data, if the text is read lossily.
     fn source(&self, node: &SyntaxNode<'_>, stop: Stop) -> Result<String, Stop>
@@ -71,8 +73,8 @@ impl Reader {
         }
     }
 
-    // Returns the name of an attribute.
-    fn name(&self, attr: &Attr<'_>) -> Result<Name, Stop>
+    /// Returns the name of an attribute.
+    pub fn name(&self, attr: &Attr<'_>) -> Result<Name, Stop>
         ensures { ReadsUnless self.now.is_lossy result (key_of (attr_node attr.now)) (λ name. string_bytes name.text) }
     {
         let node = attr.syntax();
@@ -158,15 +160,23 @@ impl Reader {
         Ok(Some(Target::Inside(values.frame(number))))
     }
 
-    // Reads the path of an entry of a set, and adds the sets on the path. Returns the place of the entry's value.
-    fn path(&self, values: &mut Values, frame: Frame, path: &Attrpath<'_>) -> Result<Target, Stop>
+    /// Reads the names of a path that are left after the last one in a set, and adds the sets to which names lead. Returns the place to which the path leads.
+    /// The path is that of a node.
+    pub fn follow<'t>(
+        &self,
+        values: &mut Values,
+        frame: Frame,
+        before: Option<Name>,
+        attrs: AstChildren<'t, Attr<'t>>,
+        node: &SyntaxNode<'_>,
+    ) -> Result<Target, Stop>
         ensures { ReadsUnless self.now.is_lossy result
-            (path_in frame.first frame.node (nodes_of is_attr path.now) (values_read values.old))
+            (path_left frame.first frame.node (option_map name_bytes before) (those_of is_attr attrs.entry) (values_read values.old))
             (λ target. (place_of target, values_read values.new)) }
     {
         let (mut set, mut first) = (frame.node, frame.first);
-        let mut last: Option<Name> = None;
-        for attr in path.attrs() {
+        let mut last = before;
+        for attr in attrs {
             let name = self.name(&attr)?;
             if let Some(before) = last {
                 set = values.set_of(self.alloc, Entry { set, name: before }, first)?;
@@ -176,8 +186,17 @@ impl Reader {
         }
         match last {
             Some(name) => values.attribute(Entry { set, name }, first),
-            None => Err(evaluated(path.syntax())),
+            None => Err(evaluated(node)),
         }
+    }
+
+    // Reads the path of an entry of a set, and adds the sets on the path. Returns the place of the entry's value.
+    fn path(&self, values: &mut Values, frame: Frame, path: &Attrpath<'_>) -> Result<Target, Stop>
+        ensures { ReadsUnless self.now.is_lossy result
+            (path_in frame.first frame.node (nodes_of is_attr path.now) (values_read values.old))
+            (λ target. (place_of target, values_read values.new)) }
+    {
+        Ok(self.follow(values, frame, None, path.attrs(), path.syntax())?)
     }
 
     // Reads the path of an entry. Returns the place of its value.
@@ -278,8 +297,8 @@ impl Reader {
         }
     }
 
-    // Adds the values of a node and of those inside it, which nest less than `levels` deep.
-    fn read(
+    /// Adds the values of a node and of those inside it, which nest less than `levels` deep.
+    pub fn read(
         &self,
         values: &mut Values,
         levels: usize,

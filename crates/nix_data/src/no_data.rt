@@ -23,6 +23,10 @@ pub enum Reason {
     IndentedName,
     /// An attribute that is already defined.
     Repeated,
+    /// A name or a function that changes what `true`, `false` or `null` means, or overrides attributes.
+    Redefined,
+    /// An operand of `//` that is not a set.
+    NoSet,
     /// A character that Nix does not read as white space.
     ForeignSpace,
     /// A carriage return inside a `#` comment: for Nix, the comment ends there.
@@ -78,6 +82,8 @@ impl Reason {
             Reason::HasReturn => "Nix reads this carriage return as a line feed: write \\r or \\n",
             Reason::IndentedName => "a name cannot be a string in ''",
             Reason::Repeated => "the attribute is already defined",
+            Reason::Redefined => "names here could have another meaning",
+            Reason::NoSet => "only sets can be merged by `//`",
             Reason::ForeignSpace => "Nix does not read this character as white space",
             Reason::EarlyEnd => "for Nix, the comment ends at this carriage return",
             Reason::LacksDigit => "Nix reads no float here: a digit must follow `0.`",

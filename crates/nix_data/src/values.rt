@@ -5,7 +5,7 @@ ghost use Rattle.rnix_green.specs.Tree.{item_of};
 ghost use Rattle.nix_values.specs.Contents.{contents, plain_of};
 ghost use Rattle.nix_values.specs.Preorder.{preorder};
 ghost use Rattle.nix_values.specs.Building.{IsAddedLast};
-ghost use Rattle.nix_data.specs.Added.{attribute, value_added, set_from, set_at, attribute_at, place_for, place_after};
+ghost use Rattle.nix_data.specs.Added.{outermost, attribute, value_added, set_from, set_at, attribute_at, place_for, place_after};
 
 use crate::no_data::{NoData, Reason};
 use crate::scalars::{Stop, no_data};
@@ -44,7 +44,7 @@ pub struct Entry {
 /// Where the next value is added.
 #[derive(Drop)]
 pub enum Target {
-    /// As the outermost value.
+    /// As the outermost value, which is the first one.
     Outermost,
     /// Inside a list, or among the entries of a set.
     Inside(Frame),
@@ -149,6 +149,36 @@ impl Values {
         }
     }
 
+    // Adds the outermost value, unless there is one already.
+    fn add_outermost(
+        &mut self,
+        alloc: Global,
+        value: Value,
+        range: TextRange,
+    ) -> Result<usize, Stop>
+        ensures number { IfOk result (λ number. number ≡ length (values_read self.old)) }
+        ensures added { Reads result (value_added outermost (plain_of value) (values_read self.old)) (λ number. values_read self.new) }
+    {
+        if self.builder.len() == 0 {
+            self.push(alloc, None, String::new(alloc), value, range)
+        } else {
+            Err(self.repeated(range, 0))
+        }
+    }
+
+    // Returns the outermost value if it is a set, adding the set if there is no value.
+    fn outermost_set(&mut self, alloc: Global, range: TextRange) -> Result<usize, Stop>
+        ensures { Reads result (set_at outermost (values_read self.old)) (λ number. (number, values_read self.new)) }
+    {
+        if self.builder.len() == 0 {
+            self.push(alloc, None, String::new(alloc), Value::Set, range)
+        } else if self.builder.is_set(0) {
+            Ok(0)
+        } else {
+            Err(self.repeated(range, 0))
+        }
+    }
+
     /// Adds a value at a place; one without a name has this range.
     pub fn add(
         &mut self,
@@ -161,7 +191,7 @@ impl Values {
         ensures added { Reads result (value_added (place_of target) (plain_of value) (values_read self.old)) (λ number. values_read self.new) }
     {
         match target {
-            Target::Outermost => self.push(alloc, None, String::new(alloc), value, range),
+            Target::Outermost => self.add_outermost(alloc, value, range),
             Target::Inside(frame) => {
                 self.push(alloc, Some(frame.node), String::new(alloc), value, range)
             }
@@ -189,6 +219,7 @@ impl Values {
     {
         match target {
             Target::Attribute(entry) => self.set_of(alloc, entry, 0),
+            Target::Outermost => self.outermost_set(alloc, range),
             other => self.add(alloc, other, Value::Set, range),
         }
     }

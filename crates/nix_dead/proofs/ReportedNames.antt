@@ -1,57 +1,35 @@
 -- What a report says.
-use Rattle.std.proofs.Common.{◌≡◌, ℕ, ◌+◌, ◌<◌, Bool, List, [], ◌∷◌, ◌++◌, length, map, take, get_or, Option, Some, refl, ap, sym, ◌∙◌, arith, subst, inl, inr}
-use Rattle.std.proofs.{KnownBytes.{Appends-nil, Appends-kept, Appends-trans, Keeps-trans}, lemmas.List.{length-map, take_more, flat_map_more, Sorted.length_permutation}}
-use Rattle.std.specs.{List.{flat_map, Sorted.{IsNonDecreasingBy, IsPermutation}}, Io.KnownBytes.{Appends, Keeps}}
+use Rattle.std.proofs.Common.{◌≡◌, ℕ, ◌+◌, ◌<◌, List, [], ◌∷◌, ◌++◌, length, map, take, get_or, Option, Some, refl, ap, sym, ◌∙◌, arith, subst, inr}
+use Rattle.std.proofs.{KnownBytes.{Appends-nil, Appends-kept, Appends-trans, Keeps-trans}, lemmas.List.{take_more, flat_map_more}}
+use Rattle.std.specs.{List.{flat_map}, Io.KnownBytes.{Appends, Keeps}}
 use Rattle.rnix_kinds.specs.Lexical.Tokens.{tokens_of}
 use Rattle.rnix_green.specs.Tree.{Tree, Located}
 use Rattle.rnix_grammar.specs.{declared.error.ParseError.ParseError, Fault.{Fault, fault_of}, Parsed.IsParsed}
 use Rattle.nix_cli.specs.{KnownTexts.{KnownTexts, Agrees}, MessageLocations.{display_name}}
-use Rattle.nix_lints.specs.{UnusedNames.{Written, written_name, unused_in}, declared.unused.UnusedName.UnusedName}
-use Rattle.nix_dead.specs.Dead.{start_of}
-use Rattle.nix_dead.specs.Report.{name_output, status_of, AreReported, IsReported, IsFileReported}
+use Rattle.nix_lints.specs.declared.unused.UnusedName.{UnusedName}
+use Rattle.nix_dead.specs.declared.options.Options.{Options}
+use Rattle.nix_dead.specs.DeadNames.{AreDead}
+use Rattle.nix_dead.specs.Report.{name_output, AreReported, IsReported, IsFileReported}
 
-status_none : (names : List Written) → length names ≡ 0 → 0 ≡ status_of names
-status_none [] none = refl
-status_none (name ∷ names) none = absurd (omega (arith, none))
+-- a tree without names that are reported
+pub none_reported : (options : Options) (file text : List ℕ) (root : Located) (old : Option (List ℕ)) (names : List UnusedName) → length names ≡ 0 →
+    AreDead text options root names → AreReported options file text root old old 0
+none_reported options file text root old [] none exactly = record { names = []; exactly = exactly; written = Appends-nil old; status_is = refl }
+none_reported options file text root old (name ∷ names) none exactly = absurd (omega (arith, none))
 
-status_some : (names : List Written) → (length names ≡ 0 → ⊥) → 1 ≡ status_of names
-status_some [] some = absurd (some refl)
-status_some (name ∷ names) some = refl
-
--- there are as many dead names as names that are reported
-same_length : (root : Located) (names : List UnusedName) → IsPermutation (unused_in root) (map written_name names) → length names ≡ length (unused_in root)
-same_length root names same = sym (length-map names written_name) ∙ length_permutation (unused_in root) (map written_name names) same
-
--- a tree without dead names is reported
-pub none_reported : (is_json : Bool) (file text : List ℕ) (root : Located) (old : Option (List ℕ)) (names : List UnusedName) → length names ≡ 0 →
-    IsPermutation (unused_in root) (map written_name names) → IsNonDecreasingBy start_of names →
-    AreReported is_json file text root old old 0
-none_reported is_json file text root old [] none same order = record {
-  names = [];
-  exactly = same;
-  order = order;
-  written = Appends-nil old;
-  status_is = status_none (unused_in root) (sym (same_length root [] same));
-}
-none_reported is_json file text root old (name ∷ names) none same order = absurd (omega (arith, none))
-
--- a tree with dead names is reported
-pub some_reported : (is_json : Bool) (file text : List ℕ) (root : Located) (old new : Option (List ℕ)) (names : List UnusedName) →
-    (length names ≡ 0 → ⊥) → IsPermutation (unused_in root) (map written_name names) → IsNonDecreasingBy start_of names →
-    Appends old new (flat_map (name_output is_json file text) names) → AreReported is_json file text root old new 1
-some_reported is_json file text root old new names some same order written = record {
-  names = names;
-  exactly = same;
-  order = order;
-  written = written;
-  status_is = status_some (unused_in root) (λ none. some (same_length root names same ∙ none));
-}
+-- a tree with names that are reported
+pub some_reported : (options : Options) (file text : List ℕ) (root : Located) (old new : Option (List ℕ)) (names : List UnusedName) →
+    (length names ≡ 0 → ⊥) → AreDead text options root names → Appends old new (flat_map (name_output options.is_json file text) names) →
+    AreReported options file text root old new 1
+some_reported options file text root old new [] some exactly written = absurd (some refl)
+some_reported options file text root old new (name ∷ names) some exactly written =
+    record { names = name ∷ names; exactly = exactly; written = written; status_is = refl }
 
 -- a text without errors is reported
-pub text_reported : (is_json : Bool) (file text : List ℕ) (old new : Option (List ℕ)) (tree : Tree) (faults : List Fault) (status : ℕ) →
-    IsParsed (tokens_of text) tree faults → faults ≡ [] → AreReported is_json file text record { tree = tree; number = 0 } old new status →
-    IsReported is_json file text old new status
-text_reported is_json file text old new tree faults status read none reported = record {
+pub text_reported : (options : Options) (file text : List ℕ) (old new : Option (List ℕ)) (tree : Tree) (faults : List Fault) (status : ℕ) →
+    IsParsed (tokens_of text) tree faults → faults ≡ [] → AreReported options file text record { tree = tree; number = 0 } old new status →
+    IsReported options file text old new status
+text_reported options file text old new tree faults status read none reported = record {
   tree = tree;
   faults = faults;
   read = read;
@@ -64,10 +42,10 @@ kept_appended : (old mid new : Option (List ℕ)) (bytes : List ℕ) → Keeps o
 kept_appended old mid new bytes kept written = Appends-trans old mid new [] bytes (Appends-kept old old mid [] (Appends-nil old) kept) written
 
 -- a file is reported, after calls that change no output
-pub file_reported : (is_json : Bool) (texts : KnownTexts) (file text : List ℕ) (old mid new : Option (List ℕ)) (status : ℕ) →
-    Agrees (texts file) (Some text) → Keeps old mid → IsReported is_json (display_name file) text mid new status →
-    IsFileReported is_json texts file old new status
-file_reported is_json texts file text old mid new status known kept reported = inr (
+pub file_reported : (options : Options) (texts : KnownTexts) (file text : List ℕ) (old mid new : Option (List ℕ)) (status : ℕ) →
+    Agrees (texts file) (Some text) → Keeps old mid → IsReported options (display_name file) text mid new status →
+    IsFileReported options texts file old new status
+file_reported options texts file text old mid new status known kept reported = inr (
   text,
   known,
   record {
@@ -78,8 +56,7 @@ file_reported is_json texts file text old mid new status known kept reported = i
     faultless = λ none. let own = reported.faultless none in record {
       names = own.names;
       exactly = own.exactly;
-      order = own.order;
-      written = kept_appended old mid new (flat_map (name_output is_json (display_name file) text) own.names) kept own.written;
+      written = kept_appended old mid new (flat_map (name_output options.is_json (display_name file) text) own.names) kept own.written;
       status_is = own.status_is;
     };
   },

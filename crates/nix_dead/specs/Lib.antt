@@ -1,2 +1,11 @@
 pub mod Dead
+pub mod Skipped
+pub mod DeadNames
 pub mod Report
+pub mod Removal
+pub mod Underscore
+pub mod Proposals
+pub mod AppliedRemovals
+pub mod KeptReferences
+pub mod Editing
+pub mod EditedFiles

@@ -8,7 +8,8 @@ ghost use Rattle.nix_cli.specs.Statuses.{first_status, AreProcessed};
 ghost use Rattle.nix_dead.specs.Report.{name_line, name_object, name_output, AreReported, IsReported, IsFileReported};
 
 use crate::command::COMMAND;
-use crate::dead::{dead_names, start_of};
+use crate::dead::{reported_names, start_of};
+use crate::options::Options;
 use nix_cli::{
     FAILED, FOUND, Files, Source, TextReader, display_name, location_of, refuse_after_output,
     write_json_string, write_shown, write_source_location,
@@ -104,12 +105,12 @@ fn report_names<W: Write>(
     file: &str,
     text: &str,
     root: &SyntaxNode<'_>,
-    is_json: bool,
+    options: Options,
     out: &mut W,
 ) -> io::Result<u8>
-    ensures { IfOk result (AreReported is_json file.now text.now root.now (W.contents out.old) (W.contents out.new)) }
+    ensures { IfOk result (AreReported options file.now text.now root.now (W.contents out.old) (W.contents out.new)) }
 {
-    let names = dead_names(alloc, root)?;
+    let names = reported_names(alloc, text, root, options)?;
     if names.is_empty() {
         return Ok(0);
     }
@@ -119,26 +120,26 @@ fn report_names<W: Write>(
         text,
         index: &index,
     };
-    write_names(&source, &names, is_json, out)?;
+    write_names(&source, &names, options.is_json, out)?;
     Ok(FOUND)
 }
 
-// Writes the unused names of a text, and returns the exit status. A text with syntax errors is refused.
-fn report<W: Write>(
+/// Writes the unused names of a text, and returns the exit status. A text with syntax errors is refused.
+pub fn report<W: Write>(
     rt: &HostRuntime,
     file: &str,
     text: &str,
-    is_json: bool,
+    options: Options,
     out: &mut W,
 ) -> io::Result<u8>
-    ensures { IfOk result (IsReported is_json file.now text.now (W.contents out.old) (W.contents out.new)) }
+    ensures { IfOk result (IsReported options file.now text.now (W.contents out.old) (W.contents out.new)) }
 {
     let read = Root::parse(rt.alloc(), text)?;
     if !read.errors().is_empty() {
         refuse_text(rt, file, text, &read, out)?;
         return Ok(FAILED);
     }
-    report_names(rt.alloc(), file, text, &read.syntax(), is_json, out)
+    report_names(rt.alloc(), file, text, &read.syntax(), options, out)
 }
 
 // Writes the unused names of a file, and returns the exit status. A file that cannot be read is reported.
@@ -146,13 +147,13 @@ fn report_file<R: TextReader, W: Write>(
     rt: &HostRuntime,
     reader: &R,
     file: &str,
-    is_json: bool,
+    options: Options,
     out: &mut W,
 ) -> io::Result<u8>
-    ensures { IfOk result (IsFileReported is_json (R.texts reader.now) file.now (W.contents out.old) (W.contents out.new)) }
+    ensures { IfOk result (IsFileReported options (R.texts reader.now) file.now (W.contents out.old) (W.contents out.new)) }
 {
     match reader.read_text(rt, &COMMAND, file, out)? {
-        Some(text) => report(rt, display_name(file), text.as_str(), is_json, out),
+        Some(text) => report(rt, display_name(file), text.as_str(), options, out),
         None => Ok(FAILED),
     }
 }
@@ -162,16 +163,16 @@ pub fn report_files<R: TextReader, W: Write>(
     rt: &HostRuntime,
     reader: &R,
     files: &Files,
-    is_json: bool,
+    options: Options,
     out: &mut W,
 ) -> io::Result<u8>
-    ensures { IfOk result (λ status. AreProcessed (IsFileReported is_json (R.texts reader.now)) (first_status files.now.failed)
+    ensures { IfOk result (λ status. AreProcessed (IsFileReported options (R.texts reader.now)) (first_status files.now.failed)
         (W.contents out.old) (map string_bytes files.now.names.items) (W.contents out.new) status) }
 {
     let mut status = files.status();
     for number in 0..files.names.len() {
         let file = files.names[number].as_str();
-        let own = report_file(rt, reader, file, is_json, out)?;
+        let own = report_file(rt, reader, file, options, out)?;
         status = status.max(own);
     }
     Ok(status)

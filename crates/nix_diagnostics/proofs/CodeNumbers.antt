@@ -1,8 +1,9 @@
 -- The codes in the order of their numbers.
-use Rattle.std.proofs.Common.{◌≡◌, ◌<◌, true, nat_lt, get_or, length, refl, arith}
+use Rattle.std.proofs.Common.{◌≡◌, ◌<◌, true, nat_lt, get_or, length, map, refl, arith}
 use Rattle.std.proofs.lemmas.{Bool.Decides.nat_tests}
 use Rattle.nix_diagnostics.specs.declared.code.Code.{Code}
 use Rattle.nix_diagnostics.specs.declared.code.Code.TheVariants.{SyntaxError}
+use Rattle.nix_diagnostics.specs.declared.rules.TheConstants.{TABLE}
 use Rattle.nix_diagnostics.specs.Codes.{all_codes, code_number}
 
 -- each code stands at its number
@@ -17,3 +18,7 @@ is_within _ = refl
 
 pub few_codes : (c : Code) → code_number c < length all_codes
 few_codes c = grind (arith, nat_tests, is_within c)
+
+-- each row is that of the code with its number
+rows_are_of_codes : map (λ r. r.0) TABLE ≡ all_codes
+rows_are_of_codes = refl

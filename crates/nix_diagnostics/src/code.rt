@@ -4,7 +4,7 @@ ghost use Rattle.std.specs.Prelude.{◌≡◌};
 ghost use Rattle.rnix_grammar.specs.Fault.{fault_of};
 ghost use Rattle.nix_diagnostics.specs.Codes.{code_of, severity_name, row_of, rule_of};
 
-use crate::rules::*;
+use crate::rules::{Rule, TABLE};
 use rnix::ParseError;
 
 /// The severity of what a diagnostic reports.
@@ -76,21 +76,13 @@ impl Code {
     pub fn rule(self) -> Rule
         ensures { row_of result ≡ rule_of self }
     {
-        match self {
-            Code::SyntaxError => SYNTAX_ERROR,
-            Code::NestedTooDeep => NESTED_TOO_DEEP,
-            Code::RepeatedAttribute => REPEATED_ATTRIBUTE,
-            Code::ForeignSpace => FOREIGN_SPACE,
-            Code::UnboundName => UNBOUND_NAME,
-            Code::DynamicName => DYNAMIC_NAME,
-            Code::LargeInteger => LARGE_INTEGER,
-            Code::CalledData => CALLED_DATA,
-            Code::BarePath => BARE_PATH,
-            Code::NeedlessParentheses => NEEDLESS_PARENTHESES,
-            Code::ManualInherit => MANUAL_INHERIT,
-            Code::UnusedName => UNUSED_NAME,
-            Code::NeedlessWith => NEEDLESS_WITH,
-            Code::RepeatedArgument => REPEATED_ARGUMENT,
+        let (_, name, severity, title, message, note) = TABLE[self as usize];
+        Rule {
+            name,
+            severity,
+            title,
+            message,
+            note,
         }
     }
 

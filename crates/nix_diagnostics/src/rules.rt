@@ -35,128 +35,118 @@ pub const CODES: [Code; 14] = [
     Code::RepeatedArgument,
 ];
 
-/// The row of `syntax-error`.
-pub const SYNTAX_ERROR: Rule = Rule {
-    name: "syntax-error",
-    severity: Severity::Error,
-    title: "A syntax error",
-    message: "",
-    note: "",
-};
-
-/// The row of `nested-too-deep`.
-pub const NESTED_TOO_DEEP: Rule = Rule {
-    name: "nested-too-deep",
-    severity: Severity::Error,
-    title: "Expressions that are nested too deep",
-    message: "",
-    note: "",
-};
-
-/// The row of `repeated-attribute`.
-pub const REPEATED_ATTRIBUTE: Rule = Rule {
-    name: "repeated-attribute",
-    severity: Severity::Error,
-    title: "An attribute that is defined again",
-    message: "this attribute is already defined",
-    note: "first defined here",
-};
-
-/// The row of `foreign-space`.
-pub const FOREIGN_SPACE: Rule = Rule {
-    name: "foreign-space",
-    severity: Severity::Error,
-    title: "White space that Nix does not read",
-    message: "",
-    note: "write a plain space",
-};
-
-/// The row of `unbound-name`.
-pub const UNBOUND_NAME: Rule = Rule {
-    name: "unbound-name",
-    severity: Severity::Error,
-    title: "A name that nothing binds",
-    message: "nothing binds this name",
-    note: "",
-};
-
-/// The row of `dynamic-name`.
-pub const DYNAMIC_NAME: Rule = Rule {
-    name: "dynamic-name",
-    severity: Severity::Error,
-    title: "A computed name in a let or an inherit",
-    message: "Nix allows no computed name here",
-    note: "",
-};
-
-/// The row of `large-integer`.
-pub const LARGE_INTEGER: Rule = Rule {
-    name: "large-integer",
-    severity: Severity::Error,
-    title: "An integer that is too large",
-    message: "this integer is larger than 9223372036854775807, the largest of Nix",
-    note: "",
-};
-
-/// The row of `called-data`.
-pub const CALLED_DATA: Rule = Rule {
-    name: "called-data",
-    severity: Severity::Warning,
-    title: "A number, string, path or list that is called",
-    message: "this is called, but it is not a function",
-    note: "to write a string, put it in quotes",
-};
-
-/// The row of `bare-path`.
-pub const BARE_PATH: Rule = Rule {
-    name: "bare-path",
-    severity: Severity::Warning,
-    title: "A path that begins with a name",
-    message: "this is a path",
-    note: "to write a string, put it in quotes; to write a path, begin it with ./",
-};
-
-/// The row of `needless-parentheses`.
-pub const NEEDLESS_PARENTHESES: Rule = Rule {
-    name: "needless-parentheses",
-    severity: Severity::Warning,
-    title: "Parentheses that change nothing",
-    message: "these parentheses change nothing",
-    note: "leave them out",
-};
-
-/// The row of `manual-inherit`.
-pub const MANUAL_INHERIT: Rule = Rule {
-    name: "manual-inherit",
-    severity: Severity::Warning,
-    title: "An entry that an inherit says",
-    message: "\"inherit\" says this in fewer words",
-    note: "write \"inherit\"",
-};
-
-/// The row of `unused-name`.
-pub const UNUSED_NAME: Rule = Rule {
-    name: "unused-name",
-    severity: Severity::Warning,
-    title: "A name that nothing uses",
-    message: "nothing uses this name",
-    note: "",
-};
-
-/// The row of `needless-with`.
-pub const NEEDLESS_WITH: Rule = Rule {
-    name: "needless-with",
-    severity: Severity::Warning,
-    title: "A with that no name needs",
-    message: "no name needs this \"with\"",
-    note: "leave it out",
-};
-
-/// The row of `repeated-argument`.
-pub const REPEATED_ARGUMENT: Rule = Rule {
-    name: "repeated-argument",
-    severity: Severity::Error,
-    title: "A name of a pattern that is one of its arguments, too",
-    message: "an argument of this pattern has the same name",
-    note: "this is the argument",
-};
+/// The table, in the order of the codes: the code, its name, its severity, its title, its message and the note. Definitions cite it, and they cannot cite structs.
+pub(crate) const TABLE: [(Code, &str, Severity, &str, &str, &str); 14] = [
+    (
+        Code::SyntaxError,
+        "syntax-error",
+        Severity::Error,
+        "A syntax error",
+        "",
+        "",
+    ),
+    (
+        Code::NestedTooDeep,
+        "nested-too-deep",
+        Severity::Error,
+        "Expressions that are nested too deep",
+        "",
+        "",
+    ),
+    (
+        Code::RepeatedAttribute,
+        "repeated-attribute",
+        Severity::Error,
+        "An attribute that is defined again",
+        "this attribute is already defined",
+        "first defined here",
+    ),
+    (
+        Code::ForeignSpace,
+        "foreign-space",
+        Severity::Error,
+        "White space that Nix does not read",
+        "",
+        "write a plain space",
+    ),
+    (
+        Code::UnboundName,
+        "unbound-name",
+        Severity::Error,
+        "A name that nothing binds",
+        "nothing binds this name",
+        "",
+    ),
+    (
+        Code::DynamicName,
+        "dynamic-name",
+        Severity::Error,
+        "A computed name in a let or an inherit",
+        "Nix allows no computed name here",
+        "",
+    ),
+    (
+        Code::LargeInteger,
+        "large-integer",
+        Severity::Error,
+        "An integer that is too large",
+        "this integer is larger than 9223372036854775807, the largest of Nix",
+        "",
+    ),
+    (
+        Code::CalledData,
+        "called-data",
+        Severity::Warning,
+        "A number, string, path or list that is called",
+        "this is called, but it is not a function",
+        "to write a string, put it in quotes",
+    ),
+    (
+        Code::BarePath,
+        "bare-path",
+        Severity::Warning,
+        "A path that begins with a name",
+        "this is a path",
+        "to write a string, put it in quotes; to write a path, begin it with ./",
+    ),
+    (
+        Code::NeedlessParentheses,
+        "needless-parentheses",
+        Severity::Warning,
+        "Parentheses that change nothing",
+        "these parentheses change nothing",
+        "leave them out",
+    ),
+    (
+        Code::ManualInherit,
+        "manual-inherit",
+        Severity::Warning,
+        "An entry that an inherit says",
+        "\"inherit\" says this in fewer words",
+        "write \"inherit\"",
+    ),
+    (
+        Code::UnusedName,
+        "unused-name",
+        Severity::Warning,
+        "A name that nothing uses",
+        "nothing uses this name",
+        "",
+    ),
+    (
+        Code::NeedlessWith,
+        "needless-with",
+        Severity::Warning,
+        "A with that no name needs",
+        "no name needs this \"with\"",
+        "leave it out",
+    ),
+    (
+        Code::RepeatedArgument,
+        "repeated-argument",
+        Severity::Error,
+        "A name of a pattern that is one of its arguments, too",
+        "an argument of this pattern has the same name",
+        "this is the argument",
+    ),
+];

@@ -7,4 +7,5 @@ mod fix;
 mod tried;
 
 pub use all_fixes::{FixedText, fixed};
+pub use changed_text::{new_text, spliced};
 pub use fix::{Fix, fix_of};

@@ -4,7 +4,7 @@ use Rattle.std.proofs.KnownBytes.{Appends-nil}
 use Rattle.std.specs.Io.KnownBytes.{Appends}
 use Rattle.nix_format.specs.declared.file.Task.{Task}
 use Rattle.nix_format.specs.declared.file.Task.TheVariants.{Write, Check, Diff, Print}
-use Rattle.nix_format.specs.Unified.{IsUnified}
+use Rattle.nix_diff.specs.Unified.{IsUnified}
 use Rattle.nix_format.specs.Outcomes.{Prints, changed_name, input_text, IsDiffOf, IsPrinted}
 
 -- no diff is printed for equal texts

@@ -1,5 +1,5 @@
 -- One more file is formatted.
-use Rattle.std.proofs.Common.{◌≡◌, ℕ, ◌+◌, ◌<◌, Bool, List, [], ◌∷◌, ◌++◌, length, map, take, get_or, Option, sym, subst}
+use Rattle.std.proofs.Common.{◌≡◌, ℕ, ◌+◌, ◌<◌, Bool, List, length, map, take, get_or, Option, sym, subst}
 use Rattle.std.specs.{Prelude.{string_bytes, String}, Io.KnownBytes.Appends, declared.alloc.Global.Global}
 use Rattle.nix_cli.{specs.KnownTexts.KnownTexts, proofs.ProcessedLemmas.names_more}
 use Rattle.nix_format.specs.declared.{file.{Task.Task, Outcome.Outcome}, report.Tally.Tally}

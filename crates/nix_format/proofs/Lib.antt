@@ -1,9 +1,3 @@
-pub mod AppliedDiffs
-pub mod DiffLemmas
-pub mod DiffRows
-pub mod HunkLemmas
-pub mod PatchedLines
 pub mod FormattedFiles
 pub mod OutcomeExamples
 pub mod FinishedTexts
-pub mod HeaderLines

@@ -1,6 +1,6 @@
 -- The definitions for some examples, by computation.
-use Rattle.std.proofs.Common.{◌≡◌, [], refl}
-use Rattle.std.specs.Prelude.{codes, true, false}
+use Rattle.std.proofs.Common.{◌≡◌, refl}
+use Rattle.std.specs.Prelude.{codes, true}
 use Rattle.nix_format.specs.declared.file.Task.TheVariants.{Write, Check, Diff, Print}
 use Rattle.nix_format.specs.declared.file.Outcome.TheVariants.{Changed, Failed}
 use Rattle.nix_format.specs.Outcomes.{heading, counted, status_of}

@@ -1,5 +1,1 @@
-pub mod Diff
-pub mod Applied
-pub mod Hunks
-pub mod Unified
 pub mod Outcomes

@@ -3,13 +3,13 @@ use Rattle.std.specs.Prelude.{◌≡◌, ℕ, ◌+◌, ◌-◌, ◌^◌, ◌==�
 use Rattle.std.specs.{Str.bytes_eq, Io.KnownBytes.{Appends, Keeps}}
 use Rattle.nix_cli.specs.KnownTexts.{KnownTexts, Agrees}
 use Rattle.nix_cli.specs.MessageLocations.{display_name}
-use Rattle.nix_formatting.specs.{Formatted.{IsWithErrors, IsWithoutErrors}, Reindented.IsReformatted}
+use Rattle.nix_formatting.specs.{Formatted.{IsWithErrors, IsWithoutErrors}, Retokened.IsFormatted}
 use Rattle.nix_format.specs.declared.file.Task.{Task}
 use Rattle.nix_format.specs.declared.file.Task.TheVariants.{Write, Check, Diff, Print}
 use Rattle.nix_format.specs.declared.file.Outcome.{Outcome}
 use Rattle.nix_format.specs.declared.file.Outcome.TheVariants.{Changed, Same, Failed}
 use Rattle.nix_format.specs.declared.report.Tally.{Tally}
-use Rattle.nix_format.specs.Unified.{IsUnified}
+use Rattle.nix_diff.specs.Unified.{IsUnified}
 
 -- whether a name means standard input
 abbrev pub is_input : List ℕ → Bool
@@ -69,7 +69,7 @@ pub data IsTextFormatted (task : Task) (name text : List ℕ) (old new : Option 
   -- it has no errors, and is refused all the same
   refused : IsWithoutErrors text → Keeps old new → IsTextFormatted task name text old new Failed
   -- it has a formatted text
-  formatted : (made : List ℕ) (outcome : Outcome) → IsReformatted text made → IsFinished task name text made old new outcome →
+  formatted : (made : List ℕ) (outcome : Outcome) → IsFormatted text made → IsFinished task name text made old new outcome →
       IsTextFormatted task name text old new outcome
 
 -- the outcome for a file

@@ -11,11 +11,12 @@ pub const COMMAND: Command = Command {
     name: "rnix format",
     usage: &["[OPTION..] [FILE..]"],
     help: "
-Writes Nix files in the style of Nixpkgs. Only white space changes: the tokens of each new text, comments included, are compared with the old ones,
-and the tree is the same. Strings in '' are indented with the code, and their values, as Nix makes them, are compared. A file with errors stays as it
-is. A folder means all regular files in it and below that end with .nix, except those that a .gitignore leaves out; - and no FILE mean standard
-input, whose new text is printed. Files are replaced: the new text goes to FILE.new, which is then renamed. A symbolic link stays as it is: if it
-is a FILE, the file that it leads to is replaced, and in a folder it is passed over. Lines end as they did, with CR LF if the first one does.
+Writes Nix files in the style of Nixpkgs. Only white space, the commas of patterns and the marks of comments change: the tokens of each new text,
+comments included, are compared with the old ones, and the tree is the same. Strings in '' are indented with the code, and their values, as Nix makes
+them, are compared. A file with errors stays as it is. A folder means all regular files in it and below that end with .nix, except those that a
+.gitignore leaves out; - and no FILE mean standard input, whose new text is printed. Files are replaced: the new text goes to FILE.new, which is then
+renamed. A symbolic link stays as it is: if it is a FILE, the file that it leads to is replaced, and in a folder it is passed over. Lines end as they
+did, with CR LF if the first one does.
 
     --check    change nothing, and print the names of the files that would change
     --diff     change nothing, and print how the files would change, as a unified diff for `patch -p1` and `git apply` in the same folder, if each

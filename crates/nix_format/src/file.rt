@@ -4,9 +4,9 @@ ghost use Rattle.std.specs.Prelude.{◌≡◌, true, false, IfOk, IfSome, OnOk};
 ghost use Rattle.std.specs.Io.KnownBytes.{Appends};
 ghost use Rattle.nix_format.specs.Outcomes.{is_input, changed_name, input_text, writes, Prints, IsDiffOf, IsPrinted, IsReplaced, IsFinished, IsTextFormatted, IsFileFormatted};
 
-use crate::unified::unified_diff;
 use nix_cli::{Command, TextReader, display_name, location_of, replace_text, replaceable};
 use nix_diagnostics::first_diagnostics;
+use nix_diff::unified_diff;
 use nix_formatting::{Formatting, formatted};
 use rnix::Root;
 use std::alloc::Global;
@@ -184,10 +184,30 @@ fn finish<W: Write>(
 // Reports that a text was not formatted because of a bug in the formatter.
 fn write_refusal(rt: &HostRuntime, command: &Command, name: &str) -> io::Result<()> {
     eprintln!(rt;
-        "{}: {}: this text is left as it is: its new text would differ in more than white space, or change again, which is a bug; please report it",
+        "{}: {}: this text is left as it is: its new text would differ in more than its layout, or change again, which is a bug; please report it",
         command.name,
         display_name(name)
     )
+}
+
+// Writes or prints a formatted text, as the task says.
+fn finish_text<W: Write>(
+    rt: &HostRuntime,
+    command: &Command,
+    name: &str,
+    text: &str,
+    made: &str,
+    task: Task,
+    out: &mut W,
+) -> io::Result<Outcome>
+    ensures { IfOk result (IsFinished task name.now text.now made.now (W.contents out.old) (W.contents out.new)) }
+{
+    let change = Change {
+        name,
+        old: text,
+        new: made,
+    };
+    finish(rt, command, change, task, out)
 }
 
 // Formats a text.
@@ -203,12 +223,10 @@ fn format_text<W: Write>(
 {
     match formatted(rt.alloc(), text)? {
         Formatting::Formatted(made) => {
-            let change = Change {
-                name,
-                old: text,
-                new: made.as_str(),
-            };
-            finish(rt, command, change, task, out)
+            finish_text(rt, command, name, text, made.as_str(), task, out)
+        }
+        Formatting::Retokened(made) => {
+            finish_text(rt, command, name, text, made.as_str(), task, out)
         }
         Formatting::HasErrors => {
             write_errors(rt, command, name, text)?;

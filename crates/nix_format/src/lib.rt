@@ -2,10 +2,7 @@
 #![tactic(auto)]
 
 mod command;
-mod diff;
 mod file;
 mod report;
-mod unified;
 
 pub use command::run;
-pub use unified::unified_diff;

@@ -5,3 +5,6 @@ pub mod WalkStepLemmas
 mod WalkStepExamples
 pub mod OutlineLemmas
 pub mod ValueLemmas
+pub mod KeptStepLemmas
+pub mod WithoutCommasLemmas
+pub mod PatternPartLemmas

@@ -4,11 +4,10 @@ use Rattle.rnix_kinds.specs.Lexical.Tokens.{tokens_of}
 use Rattle.rnix_green.specs.Tree.{Tree}
 use Rattle.rnix_grammar.specs.{Fault.Fault, Reading.IsReading, Parsed.IsParsed}
 use Rattle.rnix_parser.proofs.OneReading.{one_reading}
-use Rattle.nix_formatting.specs.{SpaceChange.IsSpaceChange, WalkSteps.steps_in, Reindented.IsReformatted}
+use Rattle.nix_formatting.specs.{SpaceChange.IsSpaceChange, WalkSteps.steps_in, WithoutCommas.kept_steps, Reindented.IsReformatted, Retokened.IsRetokened}
 use Rattle.nix_formatting.proofs.OutlineLemmas.{outlines_same, values_same, nix_values_same}
-use Rattle.nix_formatting.specs.declared.formatting.Formatting.{Formatting}
-use Rattle.nix_formatting.specs.declared.formatting.Formatting.TheVariants as formatting
-use Rattle.nix_formatting.specs.Formatted.{IsWithoutErrors, IsWithErrors, IsOutcome}
+use Rattle.nix_formatting.proofs.WithoutCommasLemmas.{trees_alike, string_values_alike, nix_values_alike}
+use Rattle.nix_formatting.specs.Formatted.{IsWithoutErrors, IsWithErrors}
 
 -- a text cannot both have errors and have none
 not_both : (text : List ℕ) → IsWithErrors text → IsWithoutErrors text → ⊥
@@ -34,6 +33,19 @@ reindented old new before after ds es old_parsed old_none new_parsed new_none st
   trees = outlines_same before after steps;
   values = values_same before after steps;
   nix_values = nix_values_same before after steps;
+}
+
+-- a text is retokened if both texts are parsed without errors and walks over their trees have the same kept steps
+pub retokened : (old new : List ℕ) (before after : Tree) (ds es : List Fault) → IsParsed (tokens_of old) before ds → ds ≡ []
+    → IsParsed (tokens_of new) after es → es ≡ [] → kept_steps (steps_in after) ≡ kept_steps (steps_in before) → IsRetokened old new
+retokened old new before after ds es old_parsed old_none new_parsed new_none steps = record {
+  before = before;
+  after = after;
+  old_read = subst (IsReading (tokens_of old) before) old_none old_parsed.reading;
+  new_read = subst (IsReading (tokens_of new) after) new_none new_parsed.reading;
+  trees = trees_alike before after steps;
+  values = string_values_alike before after steps;
+  nix_values = nix_values_alike before after steps;
 }
 
 -- a list of length 0 is empty

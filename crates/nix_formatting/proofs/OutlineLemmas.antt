@@ -14,7 +14,7 @@ use Rattle.nix_formatting.specs.{Outline.{text_unless, outline}, WalkSteps.{Step
 use Rattle.nix_formatting.specs.Values.{both_values, value_if, values_in, string_values, nix_string_values}
 
 -- a step before forests: those of the open nodes, innermost first, each from the walk's position to the end of the node
-abbrev built : Bool → Bool → SyntaxKind → Shown → List Forest → List Forest
+abbrev pub built : Bool → Bool → SyntaxKind → Shown → List Forest → List Forest
 built false enters k t [] = []
 built false enters k t (f ∷ fs) = leaf k t.0 f ∷ fs
 built true false k t fs = empty ∷ fs
@@ -23,14 +23,14 @@ built true true k t (c ∷ []) = []
 built true true k t (c ∷ (f ∷ fs)) = node k c f ∷ fs
 
 -- the forests that steps build, from the last step to the first
-abbrev rebuilt : List Step → List Forest
+abbrev pub rebuilt : List Step → List Forest
 rebuilt [] = empty ∷ []
 rebuilt (s ∷ ss) = built s.is_node s.enters s.kind s.shown (rebuilt ss)
 
-abbrev located : Tree → ℕ → Located
+abbrev pub located : Tree → ℕ → Located
 located t n = record { tree = t; number = n }
 
-abbrev step_with : Bool → Bool → SyntaxKind → Shown → Step
+abbrev pub step_with : Bool → Bool → SyntaxKind → Shown → Step
 step_with enters is_node kind shown = record { enters = enters; is_node = is_node; kind = kind; shown = shown }
 
 -- the step of an event, given by the event's element, before other steps
@@ -136,7 +136,7 @@ rebuilds t n s p (node k c f) more rest g fs here text h =
     ∙ ap (λ x. node k x (join (outline f) g) ∷ fs) (join_empty (outline c))
 
 -- the steps of a walk over a tree build the tree's outline
-rebuilt_tree : (t : Tree) → rebuilt (steps_in t) ≡ outline (forest_of t) ∷ []
+pub rebuilt_tree : (t : Tree) → rebuilt (steps_in t) ≡ outline (forest_of t) ∷ []
 rebuilt_tree t =
     ap (λ x. rebuilt (steps_of x)) (sym (append-nil (map (event_at t) (steps_from 0 (forest_of t)))))
     ∙ rebuilds t 0 0 None (forest_of t) [] [] empty []
@@ -144,7 +144,7 @@ rebuilt_tree t =
     (sym (append-nil (text_of (forest_of t)))) refl
     ∙ ap (λ f. f ∷ []) (join_empty (outline (forest_of t)))
 
-first_same : {A : Type 0} {x y : A} → x ∷ [] ≡ y ∷ [] → x ≡ y
+pub first_same : {A : Type 0} {x y : A} → x ∷ [] ≡ y ∷ [] → x ≡ y
 first_same e = cc
 
 -- trees whose walks have the same steps have the same outline
@@ -152,7 +152,7 @@ pub outlines_same : (old new : Tree) → steps_in new ≡ steps_in old → outli
 outlines_same old new same = first_same (sym (rebuilt_tree new) ∙ ap rebuilt same ∙ rebuilt_tree old)
 
 -- the values of the strings that steps enter, where `value` selects the value from what a step shows
-abbrev values_shown : (Shown → List ℕ) → List Step → List (List ℕ)
+abbrev pub values_shown : (Shown → List ℕ) → List Step → List (List ℕ)
 values_shown value [] = []
 values_shown value (s ∷ ss) = value_if (s.enters && (s.is_node && same_kind NODE_STRING s.kind)) (value s.shown) (values_shown value ss)
 
@@ -168,7 +168,7 @@ token_no_value value true k u ss = refl
 token_no_value value false k u ss = refl
 
 -- the steps of events show the values of their strings
-values_are : (value : Shown → List ℕ) (events : List Event)
+pub values_are : (value : Shown → List ℕ) (events : List Event)
     → values_shown value (steps_of events) ≡ values_in (λ e. value (both_values e)) events
 values_are value [] = refl
 values_are value ((true, (true, e)) ∷ events) =

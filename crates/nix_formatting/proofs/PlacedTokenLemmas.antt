@@ -1,11 +1,11 @@
 -- Texts with the same tokens other than white space have matching items.
 use Rattle.std.proofs.Common.{◌≡◌, ℕ, ◌+◌, ◌<◌, ◌≤◌, Bool, true, false, List, [], ◌∷◌, length, map, Option, Some, None, refl, ap, sym, subst, ◌∙◌, arith}
 use Rattle.std.proofs.lemmas.List.Elements.{All-head, All-tail}
-use Rattle.std.proofs.lemmas.Bool.{false≢true, not-true, Decides.nat_tests}
+use Rattle.std.proofs.lemmas.Bool.{false≢true, not-true}
 use Rattle.std.specs.{List.All, Prelude.{◌&&◌, nat_eq, not}}
 use Rattle.rnix_kinds.proofs.AllKinds.{implied}
 use Rattle.rnix_kinds.specs.declared.kinds.SyntaxKind.{SyntaxKind}
-use Rattle.rnix_kinds.specs.declared.kinds.SyntaxKind.TheVariants.{TOKEN_WHITESPACE, TOKEN_COMMENT}
+use Rattle.rnix_kinds.specs.declared.kinds.SyntaxKind.TheVariants.{TOKEN_WHITESPACE}
 use Rattle.rnix_kinds.specs.SyntaxKind.{is_trivia}
 use Rattle.rnix_kinds.specs.Lexical.Tokens.{Lexeme, tokens_of, AreSound}
 use Rattle.rnix_green.specs.Equality.{same_kind, same_kind-decides}

@@ -1,7 +1,7 @@
 -- The steps of walks over the trees of small texts; by computation.
 use Rattle.std.proofs.Common.{◌≡◌, List, [], ◌∷◌, ℕ, map, refl, codes}
 use Rattle.rnix_kinds.specs.declared.kinds.SyntaxKind.TheVariants as k
-use Rattle.rnix_green.specs.{Forest.{Forest, empty, leaf, node}, Tree.Tree}
+use Rattle.rnix_green.specs.{Forest.{empty, leaf, node}, Tree.Tree}
 use Rattle.rnix_base.specs.{Escapes.values, Normal.{symbols, lines, least_indentation, part_text, with_texts, closed}, Value.{marked, ended, with_line_feeds}}
 use Rattle.nix_formatting.specs.WalkSteps.{steps_in}
 

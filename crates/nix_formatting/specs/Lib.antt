@@ -5,5 +5,10 @@ pub mod Values
 pub mod Bare
 pub mod WalkSteps
 pub mod Pairs
+pub mod Comments
+pub mod WithoutCommas
+pub mod KeptPairs
 pub mod Reindented
+pub mod Retokened
+pub mod PatternParts
 pub mod Formatted

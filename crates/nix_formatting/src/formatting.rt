@@ -7,6 +7,7 @@ ghost use Rattle.nix_formatting.specs.SpaceChange.{visible_tokens_of, IsSpaceCha
 ghost use Rattle.nix_formatting.specs.Formatted.{IsWithoutErrors, IsOutcome};
 
 use crate::alike::have_same_visible_tokens;
+use crate::retokened::have_same_kept_steps;
 use crate::stabilizing::stabilized;
 use crate::walks::have_same_steps;
 use nix_layout::styled;
@@ -17,12 +18,13 @@ use std::alloc::{AllocError, Global};
 /// The result of formatting a text.
 #[derive(Drop)]
 pub enum Formatting {
-    /// The formatted text.
+    /// The formatted text, which differs only in white space and in the indentation of strings.
     Formatted(String),
+    /// The formatted text, which differs also in commas of patterns, or in the marks of comments.
+    Retokened(String),
     /// The text has errors.
     HasErrors,
-    /// The text has no errors, but the new text differs in more than white space and the indentation of strings, or changes each time it is formatted again.
-    /// This is a bug of the layout.
+    /// The text has no errors, but the new text differs in more than that, or changes each time it is formatted again. This is a bug of the layout.
     Refused,
 }
 
@@ -38,7 +40,8 @@ fn read_alike(text: &str, made: &str)
     layout(text, made);
 }
 
-// Returns the new text if it has no errors, and a tree that differs from the old one only in white space and in the indentation of strings.
+// Returns the new text if it has no errors, and a tree that differs from the old one only in white space and in the indentation of strings, or also in commas
+// and the marks of comments.
 #[tactic(auto, using(crate::proofs::OutcomeLemmas::faultless))]
 fn with_same_steps(
     alloc: Global,
@@ -55,13 +58,15 @@ fn with_same_steps(
         return Ok(Formatting::Refused);
     }
     if have_same_steps(alloc, &read.syntax(), &again.syntax())? {
-        Ok(Formatting::Formatted(made))
-    } else {
-        Ok(Formatting::Refused)
+        return Ok(Formatting::Formatted(made));
     }
+    if have_same_kept_steps(alloc, &read.syntax(), &again.syntax())? {
+        return Ok(Formatting::Retokened(made));
+    }
+    Ok(Formatting::Refused)
 }
 
-// Returns the new text if it has the same tokens as the old one, except for white space and the indentation of strings.
+// Returns the new text if it has the same tokens as the old one, except for white space, the indentation of strings, commas and the marks of comments.
 #[tactic(auto, using(crate::proofs::OutcomeLemmas::only_space_changed))]
 fn compared(alloc: Global, text: &str, read: &Parse, made: String) -> Result<Formatting, AllocError>
     requires read { IsParsed (tokens_of text.now) read.now.tree read.now.faults }
@@ -76,9 +81,9 @@ fn compared(alloc: Global, text: &str, read: &Parse, made: String) -> Result<For
 }
 
 /// Formats a text in the style of Nixpkgs. The new text has the same tokens, comments included, and the same tree, except for white space and the
-/// indentation of strings in `''`, whose values stay the same. It is compared with the old text, and the result is `Refused` if it differs in more. Formatting
-/// it again changes nothing: if the layout cannot tell, the new text is formatted again, a few times at most. The result is `HasErrors` exactly if the text has
-/// errors.
+/// indentation of strings in `''`, whose values stay the same; if it also differs in commas of patterns, or in the marks of comments, the result is
+/// `Retokened`. It is compared with the old text, and the result is `Refused` if it differs in more. Formatting it again changes nothing: if the layout cannot
+/// tell, the new text is formatted again, a few times at most. The result is `HasErrors` exactly if the text has errors.
 pub fn formatted(alloc: Global, text: &str) -> Result<Formatting, AllocError>
     ensures { IfOk result (IsOutcome text.now) }
 {

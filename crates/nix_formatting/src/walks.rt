@@ -27,8 +27,8 @@ fn is_step(event: &WalkEvent<SyntaxElement<'_>>) -> bool
     }
 }
 
-// Returns the next step of a walk.
-fn next_step<'t>(walk: &mut PreorderWithTokens<'t>) -> Option<WalkEvent<SyntaxElement<'t>>>
+/// Returns the next step of a walk.
+pub fn next_step<'t>(walk: &mut PreorderWithTokens<'t>) -> Option<WalkEvent<SyntaxElement<'t>>>
     ensures { IsNextStep walk.old result walk.new }
 {
     while let Some(event) = walk.next() {
@@ -80,9 +80,9 @@ fn are_same_tokens(old: &SyntaxToken<'_>, new: &SyntaxToken<'_>) -> bool
         && (old.kind() == SyntaxKind::TOKEN_STRING_CONTENT || old.text() == new.text())
 }
 
-// Returns whether two events have the same step.
+/// Returns whether two events have the same step.
 #[tactic(auto, using(crate::proofs::WalkStepLemmas::nodes_entered, crate::proofs::WalkStepLemmas::nodes_done, crate::proofs::WalkStepLemmas::tokens_passed))]
-fn are_same<'t>(
+pub fn are_same<'t>(
     alloc: Global,
     old: &WalkEvent<SyntaxElement<'t>>,
     new: &WalkEvent<SyntaxElement<'t>>,
@@ -103,14 +103,14 @@ fn are_same<'t>(
     }
 }
 
-// How the next steps of two walks compare.
+/// How the next steps of two walks compare.
 #[derive(Clone, Copy)]
-enum Pair {
-    // Both are equal.
+pub enum Pair {
+    /// Both are equal.
     Same,
-    // They differ, or only one walk has a next step.
+    /// They differ, or only one walk has a next step.
     Differ,
-    // Neither walk has a next step.
+    /// Neither walk has a next step.
     End,
 }
 

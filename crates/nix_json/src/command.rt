@@ -5,9 +5,9 @@ use nix_cli::{
     Arguments, Command, FAILED, FOUND, Start, display_name, end, location_of, read_arguments,
     read_text, refuse,
 };
-use nix_data::{data_in, nix_of};
-use nix_values::{Data, data_of_json, json_of};
-use rnix::Root;
+use nix_data::{NoData, data_at, data_in, nix_of};
+use nix_values::{Data, data_of_json, json_of, names_of};
+use rnix::{Root, SyntaxNode};
 use std::io::{self, Write};
 use std::process::ExitCode;
 
@@ -16,9 +16,9 @@ pub const COMMAND: Command = Command {
     name: "rnix json",
     usage: &["[--lossy] [FILE [PATH]]", "--to-nix [FILE]"],
     help: "
-Prints the data of a Nix text as JSON, or its part at a dotted PATH. Data are sets, lists, strings, paths, numbers, true, false and null.
-What Nix must evaluate, such as a call, is refused. Without FILE, or if it is -, standard input is read. In PATH, a number selects an item of
-a list, and a name may be in quotes.
+Prints the data of a Nix text as JSON, or of its part at a dotted PATH: only that part has to be data. Data are sets, lists, strings, paths,
+numbers, true, false and null. What Nix must evaluate, such as a call, is refused. Without FILE, or if it is -, standard input is read. In PATH,
+a number selects an item of a list, and a name may be in quotes. It leads through functions, let, with, assert and operands of //.
 
     --lossy    write what is not data as its source, in a string
     --to-nix   print JSON as Nix
@@ -51,25 +51,54 @@ fn write_converted(rt: &HostRuntime, converted: Option<String>) -> io::Result<u8
     }
 }
 
-// Prints data, or the part at a path, as JSON.
-fn write_part(rt: &HostRuntime, name: &str, data: Data, path: Option<&str>) -> io::Result<u8> {
-    let Some(path) = path else {
-        return write_converted(rt, json_of(rt.alloc(), &data)?);
+// Says that there is no such path in a text.
+fn refuse_path(rt: &HostRuntime, name: &str, path: &str) -> io::Result<u8> {
+    let name = display_name(name);
+    eprintln!(rt; "{}: {name}: nothing has the path {path}", COMMAND.name)?;
+    Ok(FOUND)
+}
+
+// Returns the part of data at a path, if there is one.
+fn part_of(
+    rt: &HostRuntime,
+    data: Result<Data, NoData>,
+    path: &str,
+) -> io::Result<Result<Data, NoData>> {
+    match data {
+        Ok(data) => Ok(Ok(match data.part(rt.alloc(), path)? {
+            Some(part) => part,
+            None => Data {
+                items: Vec::new(rt.alloc()),
+            },
+        })),
+        Err(reason) => Ok(Err(reason)),
+    }
+}
+
+// Returns the data of the part of a tree that a path selects; they have no values if there is no such part. If the tree is read lossily and the path
+// selects none, it is looked up in the data of the whole tree, where names may be sources.
+fn data_of_part(
+    rt: &HostRuntime,
+    root: &SyntaxNode<'_>,
+    path: &str,
+    is_lossy: bool,
+) -> io::Result<Result<Data, NoData>> {
+    let Some(names) = names_of(rt.alloc(), path)? else {
+        return Ok(Ok(Data {
+            items: Vec::new(rt.alloc()),
+        }));
     };
-    match data.part(rt.alloc(), path)? {
-        Some(part) => write_converted(rt, json_of(rt.alloc(), &part)?),
-        None => {
-            eprintln!(rt;
-                "{}: {}: nothing has the path {path}",
-                COMMAND.name,
-                display_name(name)
-            )?;
-            Ok(FOUND)
+    match data_at(rt.alloc(), root, names.as_slice(), is_lossy)? {
+        Ok(data) if !is_lossy || !data.items.is_empty() => Ok(Ok(data)),
+        Err(reason) if !is_lossy => Ok(Err(reason)),
+        _ => {
+            let whole = data_in(rt.alloc(), root, true)?;
+            part_of(rt, whole, path)
         }
     }
 }
 
-// Prints the data of a Nix text as JSON.
+// Prints the data of a Nix text as JSON, or of the part at a path.
 fn to_json(
     rt: &HostRuntime,
     name: &str,
@@ -82,9 +111,15 @@ fn to_json(
         report_errors(rt, name, text, &parse)?;
         return Ok(FOUND);
     }
-    match data_in(rt.alloc(), &parse.syntax(), is_lossy)? {
-        Ok(data) => write_part(rt, name, data, path),
-        Err(reason) => {
+    let root = parse.syntax();
+    let data = match path {
+        Some(path) => data_of_part(rt, &root, path, is_lossy)?,
+        None => data_in(rt.alloc(), &root, is_lossy)?,
+    };
+    match (data, path) {
+        (Ok(data), Some(path)) if data.items.is_empty() => refuse_path(rt, name, path),
+        (Ok(data), _) => write_converted(rt, json_of(rt.alloc(), &data)?),
+        (Err(reason), _) => {
             report_no_data(rt, name, text, reason)?;
             Ok(FOUND)
         }

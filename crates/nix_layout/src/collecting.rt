@@ -7,10 +7,8 @@ use crate::frame::{Frame, NO_FRAME, has_group, is_on_one_line, names_of, place_i
 use crate::grouping::is_atom;
 use crate::layout::{Group, Layout, Target, TargetKind, Targets};
 use crate::lines::with_lines;
-use crate::piece::{Piece, as_stored, line_feeds_in};
-use crate::spacing::{
-    Child, Spacing, after_first_comma, around_text, distant, keeps_distance, spacing_in,
-};
+use crate::piece::{Gap, Piece, PieceKind, as_stored, line_feeds_in};
+use crate::spacing::{Child, Spacing, around_text, distant, keeps_distance, spacing_in};
 use rnix::ast::BinOpKind;
 use rnix::{NodeOrToken, SyntaxElement, SyntaxKind, SyntaxNode, SyntaxToken, TextRange};
 use rnix_base::first_binary;
@@ -89,30 +87,13 @@ impl Collector {
         self.first_unset = self.layout.pieces.len();
     }
 
-    // Returns whether the last piece is always at the start of its line.
-    fn begins_line(&self) -> bool {
-        match self.layout.pieces.last() {
-            Some(piece) => piece.gap.is_hard,
-            None => false,
-        }
-    }
-
-    // Returns the gap between a child of a node and the next one.
-    fn wanted(&self, frame: &Frame, before: SyntaxKind, child: Child) -> Spacing {
-        if before == SyntaxKind::TOKEN_COMMA && self.begins_line() {
-            after_first_comma()
-        } else {
-            spacing_in(frame, before, child)
-        }
-    }
-
     // Records the spacing between the next child and the one before it.
     fn note_child(&mut self, child: Child) {
         let top = self.frames.len().saturating_sub(1);
         if top < self.frames.len() {
             let frame = &self.frames[top];
             if let Some(before) = frame.before {
-                let wanted = self.wanted(frame, before, child);
+                let wanted = spacing_in(frame, before, child);
                 self.group = if wanted.is_inner {
                     frame.inner
                 } else {
@@ -176,6 +157,47 @@ impl Collector {
         self.first_unset = self.layout.pieces.len();
         self.last = kind;
         Ok(())
+    }
+
+    // Adds a comma right after the last item, before the comments that follow it.
+    fn add_comma(&mut self, kind: PieceKind, group: u32) -> Result<(), AllocError> {
+        let number = self.first_unset;
+        let before = self.layout.pieces.get(number.saturating_sub(1));
+        let start = before.map_or(0, |piece| piece.end());
+        let is_apart = keeps_distance(self.last, SyntaxKind::TOKEN_COMMA);
+        let gap = Gap {
+            group,
+            blanks: u8::from(is_apart),
+            ..Gap::nothing()
+        };
+        let comma = Piece::of_comma(start, kind, gap);
+        if number <= self.layout.pieces.len() {
+            self.layout.pieces.insert(number, comma)?;
+            self.first_unset = number.saturating_add(1);
+        }
+        self.last = SyntaxKind::TOKEN_COMMA;
+        Ok(())
+    }
+
+    // Adds a comma of the old text. Comments that precede it follow it in the new text, with the line feeds after them.
+    fn enter_comma(&mut self, range: TextRange) -> Result<(), AllocError> {
+        if self.first_unset < self.layout.pieces.len() {
+            self.add_comma(PieceKind::MovedComma, self.group)
+        } else {
+            self.add_word(range, SyntaxKind::TOKEN_COMMA)
+        }
+    }
+
+    // Before the closing brace of a pattern, adds a comma after its last argument, unless there is one.
+    fn end_arguments(&mut self) -> Result<(), AllocError> {
+        let frame = self.frames.last().copied().unwrap_or(NO_FRAME);
+        let is_open = frame.kind == SyntaxKind::NODE_PATTERN
+            && frame.before == Some(SyntaxKind::NODE_PAT_ENTRY);
+        if is_open {
+            self.add_comma(PieceKind::LastComma, frame.group)
+        } else {
+            Ok(())
+        }
     }
 
     // Enters a string or a path, which is one piece.
@@ -271,15 +293,29 @@ impl Collector {
     // Enters a token.
     fn enter_token(&mut self, token: &SyntaxToken<'_>) -> Result<(), AllocError> {
         let kind = token.kind();
-        if kind == SyntaxKind::TOKEN_WHITESPACE {
-            self.line_feeds = line_feeds_in(token.text());
-            return Ok(());
+        match kind {
+            SyntaxKind::TOKEN_WHITESPACE => self.pass_space(token),
+            SyntaxKind::TOKEN_COMMENT => self.enter_comment(token)?,
+            _ => self.enter_item(token.text_range(), kind)?,
         }
-        if kind == SyntaxKind::TOKEN_COMMENT {
-            return self.enter_comment(token);
+        Ok(())
+    }
+
+    // Passes white space.
+    fn pass_space(&mut self, token: &SyntaxToken<'_>) {
+        self.line_feeds = self.line_feeds.max(line_feeds_in(token.text()));
+    }
+
+    // Enters a token that is no trivia.
+    fn enter_item(&mut self, range: TextRange, kind: SyntaxKind) -> Result<(), AllocError> {
+        if kind == SyntaxKind::TOKEN_R_BRACE {
+            self.end_arguments()?;
         }
         self.note_child(plain_child(kind));
-        self.add_word(token.text_range(), kind)?;
+        match kind {
+            SyntaxKind::TOKEN_COMMA => self.enter_comma(range)?,
+            _ => self.add_word(range, kind)?,
+        }
         match kind {
             SyntaxKind::TOKEN_THEN => self.close_condition(),
             SyntaxKind::TOKEN_L_BRACE => self.note_bracket(),

@@ -94,7 +94,7 @@ fn gap_after(piece: &Piece, spacing: Spacing, group: u32, is_ended: bool) -> Gap
 // Returns whether the line ends after a comment.
 fn ends_line(pieces: &[Piece], number: usize) -> bool {
     match (pieces.get(number), pieces.get(number.saturating_add(1))) {
-        (Some(piece), Some(next)) => piece.ends_line || next.line_feeds > 0,
+        (Some(piece), Some(next)) => piece.ends_line() || next.line_feeds > 0,
         _ => true,
     }
 }
@@ -106,7 +106,7 @@ pub fn set_gaps(pieces: &mut Vec<Piece>, from: usize, spacing: Spacing, group: u
         let ends = ends_line(pieces, number);
         let piece = pieces[number];
         let is_first = number == from;
-        let gap = if piece.is_comment {
+        let gap = if piece.is_comment() {
             comment_gap(&piece, spacing, group, is_first, is_ended, ends)
         } else if is_first {
             plain_gap(spacing, group, piece.line_feeds)
@@ -114,6 +114,6 @@ pub fn set_gaps(pieces: &mut Vec<Piece>, from: usize, spacing: Spacing, group: u
             gap_after(&piece, spacing, group, is_ended)
         };
         pieces[number].gap = gap;
-        is_ended = piece.is_comment && ends;
+        is_ended = piece.is_comment() && ends;
     }
 }

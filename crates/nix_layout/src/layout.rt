@@ -1,5 +1,7 @@
 //! A text as pieces, in groups that are each written on one line or broken.
 
+ghost use Rattle.std.specs.Prelude.{◌≡◌};
+
 use crate::lines::Line;
 use crate::piece::{Piece, as_stored};
 
@@ -50,21 +52,25 @@ impl Targets {
 
 impl Target {
     /// Returns the target from one piece to another, given their numbers.
-    pub fn new(open: usize, close: usize, kind: TargetKind) -> Target {
+    pub fn new(opening: usize, closing: usize, kind: TargetKind) -> Target {
         Target {
-            open: as_stored(open),
-            close: as_stored(close),
+            open: as_stored(opening),
+            close: as_stored(closing),
             kind,
         }
     }
 
     /// Returns the number of the opening piece.
-    pub fn open(&self) -> usize {
+    pub fn open(&self) -> usize
+        ensures { result ≡ self.now.open }
+    {
         self.open as usize
     }
 
     /// Returns the number of the closing piece.
-    pub fn close(&self) -> usize {
+    pub fn close(&self) -> usize
+        ensures { result ≡ self.now.close }
+    {
         self.close as usize
     }
 }
@@ -105,12 +111,16 @@ impl Group {
     }
 
     /// Returns the number of its first piece.
-    pub fn first(&self) -> usize {
+    pub fn first(&self) -> usize
+        ensures { result ≡ self.now.first }
+    {
         self.first as usize
     }
 
     /// Returns the number of the piece after its last one.
-    pub fn end(&self) -> usize {
+    pub fn end(&self) -> usize
+        ensures { result ≡ self.now.end }
+    {
         self.end as usize
     }
 

@@ -2,9 +2,10 @@
 
 use crate::piece::Piece;
 
-// The line ends that a text may have.
-const FEED: &str = "\n";
+/// The line end of a text that has none.
+pub const FEED: &str = "\n";
 
+// The other line end that a text may have.
 const RETURN_AND_FEED: &str = "\r\n";
 
 // A search for the first line end of a text.
@@ -34,7 +35,7 @@ impl<'a> Search<'a> {
     fn after(self, piece: &Piece, found: Option<&'static str>) -> Search<'a> {
         Search {
             start: piece.end(),
-            follows_comment: piece.ends_line,
+            follows_comment: piece.ends_line(),
             comment_end: self.comment_end.or(found),
             ..self
         }
@@ -51,14 +52,11 @@ impl<'a> Search<'a> {
     }
 }
 
-/// Returns the line end after the first comment with `#`, or a line feed if there is no such comment.
-pub fn comment_end_of(text: &str, pieces: &[Piece]) -> &'static str {
-    let first = pieces.iter().find(|piece| piece.ends_line);
-    let comment = first.and_then(|piece| text.get(piece.start()..piece.end()));
-    if comment.is_some_and(|comment| comment.ends_with('\r')) {
-        RETURN_AND_FEED
-    } else {
-        FEED
+/// Returns the line end after a comment with `#` of the old text.
+pub fn end_of_comment(text: &str, comment: &Piece) -> &'static str {
+    match text.get(comment.start()..comment.end()) {
+        Some(comment) if comment.ends_with('\r') => RETURN_AND_FEED,
+        _ => FEED,
     }
 }
 
@@ -74,7 +72,7 @@ pub fn line_end_of(text: &str, pieces: &[Piece]) -> &'static str {
     let mut search = Search {
         text,
         start: before.last().map_or(0, |piece| piece.end()),
-        follows_comment: before.last().is_some_and(|piece| piece.ends_line),
+        follows_comment: before.last().is_some_and(|piece| piece.ends_line()),
         comment_end: None,
     };
     for piece in rest {

@@ -1,5 +1,8 @@
 //! The lines of strings that are moved with the code around them.
 
+ghost use Rattle.std.specs.Prelude.{◌≡◌};
+ghost use Rattle.nix_layout.specs.Indentation.{indent_with, blanks_end};
+
 use crate::indentation::indentation_of;
 use crate::layout::STEP;
 use crate::piece::Piece;
@@ -32,12 +35,16 @@ pub struct Line {
 
 impl Line {
     /// Returns the end of the spaces at its start.
-    pub fn end_of_blanks(self) -> usize {
+    pub fn end_of_blanks(self) -> usize
+        ensures { result ≡ blanks_end self }
+    {
         self.start.saturating_add(self.blanks)
     }
 
     /// Returns the number of spaces that are written at its start, given the indentation of the code.
-    pub fn indent(self, code: usize) -> usize {
+    pub fn indent(self, code: usize) -> usize
+        ensures { result ≡ indent_with self.role code }
+    {
         match self.role {
             Role::Text(offset) => code.saturating_add(STEP).saturating_add(offset),
             Role::Empty | Role::Inside => 0,

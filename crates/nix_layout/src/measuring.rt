@@ -1,7 +1,11 @@
 //! Prefix sums of the widths of pieces, which tell in constant time whether a group fits on a line.
 
+ghost use Rattle.std.specs.Prelude.{◌≡◌, map, get_or};
+ghost use Rattle.nix_layout.specs.Fitting.{one_if, end_at, breaks_at, tail_at, width_between, breaks_between, fits};
+ghost use Rattle.nix_layout.specs.Pieces.{has_lines};
+
 use crate::layout::{Group, Layout, Target, TargetKind};
-use crate::piece::{Piece, as_stored};
+use crate::piece::{Piece, PieceKind, as_stored};
 use std::alloc::{AllocError, Global};
 
 /// Widths of pieces and ends of lines, summed up to each piece.
@@ -36,13 +40,61 @@ pub struct Room {
 }
 
 // Returns whether the line always ends in the gap before a piece: 0 or 1.
-fn hard_gap(piece: &Piece) -> usize {
+fn hard_gap(piece: &Piece) -> usize
+    ensures { result ≡ one_if piece.now.gap.is_hard }
+{
     usize::from(piece.gap.is_hard)
 }
 
 // Returns whether a piece has several lines: 0 or 1.
-fn several_lines(piece: &Piece) -> usize {
+fn several_lines(piece: &Piece) -> usize
+    ensures { result ≡ one_if (has_lines piece.now) }
+{
     usize::from(piece.has_lines())
+}
+
+// Returns the number of characters of the first line of the piece with a number, or 0 if there is none.
+fn width_of(pieces: &[Piece], number: usize) -> usize
+    ensures { result ≡ get_or (map (λ p. p.width) pieces.now) number 0 }
+{
+    if number < pieces.len() {
+        pieces[number].width()
+    } else {
+        0
+    }
+}
+
+// Returns whether the line always ends before the piece with a number: 0 or 1.
+fn hard_gap_of(pieces: &[Piece], number: usize) -> usize
+    ensures { result ≡ get_or (map (λ p. one_if p.gap.is_hard) pieces.now) number 0 }
+{
+    if number < pieces.len() {
+        hard_gap(&pieces[number])
+    } else {
+        0
+    }
+}
+
+// Returns the column at which the piece with a number ends, or 0 if there is none.
+fn end_of(sums: &[Sum], number: usize) -> usize
+    ensures { result ≡ get_or (map (λ s. s.end) sums.now) number 0 }
+{
+    if number < sums.len() {
+        sums[number].end as usize
+    } else {
+        0
+    }
+}
+
+// Returns the number of line ends before the piece with a number, or 0 if there is none.
+fn breaks_of(sums: &[Sum], number: usize) -> usize
+    ensures { result ≡ get_or (map (λ s. s.breaks) sums.now) number 0 }
+{
+    if number < sums.len() {
+        sums[number].breaks as usize
+    } else {
+        0
+    }
 }
 
 // Returns the sums up to a piece.
@@ -78,14 +130,15 @@ fn tails_of(alloc: Global, pieces: &[Piece]) -> Result<Vec<u32>, AllocError> {
     tails.push(0)?;
     for piece in pieces.iter().rev() {
         let gap = piece.gap;
-        if gap.can_break || gap.is_hard || piece.is_comment {
-            tail = 0;
+        tail = if gap.can_break || gap.is_hard || piece.is_comment() {
+            0
+        } else if piece.kind == PieceKind::LastComma {
+            usize::from(gap.blanks).saturating_add(1)
         } else {
             let rest = if piece.has_lines() { 0 } else { tail };
-            tail = rest
-                .saturating_add(usize::from(gap.blanks))
-                .saturating_add(piece.width());
-        }
+            rest.saturating_add(usize::from(gap.blanks))
+                .saturating_add(piece.width())
+        };
         tails.push(as_stored(tail))?;
     }
     Ok(tails)
@@ -114,41 +167,52 @@ impl Measures {
     }
 
     /// Returns the number of columns from the gap before a piece to the next place where the line may end.
-    pub fn tail(&self, piece: usize) -> usize {
-        let index = self.tails.len().checked_sub(piece.saturating_add(1));
-        index.map_or(
-            0,
-            |index| self.tails.get(index).map_or(0, |tail| *tail as usize),
-        )
+    pub fn tail(&self, piece: usize) -> usize
+        ensures { result ≡ tail_at self.now.tails.items piece }
+    {
+        let count = self.tails.len();
+        if piece < count {
+            self.tails[count - (piece + 1)] as usize
+        } else {
+            0
+        }
     }
 
     // Returns the column at which a piece ends, or 0 beyond the last piece.
-    fn end(&self, piece: usize) -> usize {
-        self.sums.get(piece).map_or(0, |sum| sum.end as usize)
+    fn end(&self, piece: usize) -> usize
+        ensures { result ≡ end_at self.now piece }
+    {
+        end_of(&self.sums, piece)
     }
 
     // Returns the number of line ends before the gap of a piece, or in the whole text, or 0 beyond it.
-    fn breaks(&self, piece: usize) -> usize {
-        self.sums.get(piece).map_or(0, |sum| sum.breaks as usize)
+    fn breaks(&self, piece: usize) -> usize
+        ensures { result ≡ breaks_at self.now piece }
+    {
+        breaks_of(&self.sums, piece)
     }
 
     // Returns the width of the pieces from `first` to `last` on one line.
-    fn width(&self, pieces: &[Piece], first: usize, last: usize) -> usize {
-        let own = pieces.get(first).map_or(0, |piece| piece.width());
+    fn width(&self, pieces: &[Piece], first: usize, last: usize) -> usize
+        ensures { result ≡ width_between self.now pieces.now first last }
+    {
         let between = self.end(last).saturating_sub(self.end(first));
-        between.saturating_add(own)
+        between.saturating_add(width_of(pieces, first))
     }
 
     // Returns the number of unconditional line ends after the gap of `first` and up to the piece `end`.
-    fn breaks_inside(&self, pieces: &[Piece], first: usize, end: usize) -> usize {
-        let gap = pieces.get(first).map_or(0, |piece| hard_gap(piece));
+    fn breaks_inside(&self, pieces: &[Piece], first: usize, end: usize) -> usize
+        ensures { result ≡ breaks_between self.now pieces.now first end }
+    {
         self.breaks(end)
             .saturating_sub(self.breaks(first))
-            .saturating_sub(gap)
+            .saturating_sub(hard_gap_of(pieces, first))
     }
 
     /// Returns whether a group fits on the line.
-    pub fn fits(&self, pieces: &[Piece], group: &Group, room: Room) -> bool {
+    pub fn fits(&self, pieces: &[Piece], group: &Group, room: Room) -> bool
+        ensures { result ≡ fits self.now pieces.now group.now room }
+    {
         let width = self.width(pieces, group.first(), group.end().saturating_sub(1));
         self.breaks_inside(pieces, group.first(), group.end()) == 0
             && room.column.saturating_add(width).saturating_add(room.tail) <= room.limit
@@ -157,7 +221,7 @@ impl Measures {
     // Returns whether the pieces up to the one that opens the target fit on the line.
     fn fits_before(&self, pieces: &[Piece], group: &Group, target: Target, room: Room) -> bool {
         let width = self.width(pieces, group.first(), target.open());
-        let hard = pieces.get(target.open()).map_or(0, |piece| hard_gap(piece));
+        let hard = hard_gap_of(pieces, target.open());
         let breaks = self.breaks_inside(pieces, group.first(), target.open());
         let is_first = target.open() == group.first();
         (is_first || breaks.saturating_add(hard) == 0)

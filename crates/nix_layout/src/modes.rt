@@ -2,7 +2,7 @@
 
 use crate::layout::{Group, Layout, STEP, Target, Targets};
 use crate::measuring::{Measures, Room};
-use crate::piece::{Gap, Level, as_stored};
+use crate::piece::{Gap, Level, Piece, as_stored};
 use std::alloc::{AllocError, Global};
 
 // The number of columns of a line after its indentation.
@@ -103,14 +103,22 @@ impl Modes {
         self.opened.get(number).copied().unwrap_or(UNKNOWN)
     }
 
-    // Returns whether a group is broken.
-    fn is_broken(&self, number: usize) -> bool {
-        self.group_at(number).mode == Mode::Broken
+    /// Returns whether a group is broken, given its number.
+    pub fn is_broken(&self, number: u32) -> bool {
+        self.group_at(number as usize).mode == Mode::Broken
     }
 
     /// Returns whether the line ends in a gap.
     pub fn ends_line(&self, gap: Gap) -> bool {
-        gap.is_hard || (gap.can_break && self.is_broken(gap.group as usize))
+        gap.is_hard || (gap.can_break && self.is_broken(gap.group))
+    }
+
+    /// Returns whether the line ends after the piece with a number.
+    pub fn ends_line_after(&self, pieces: &[Piece], number: usize) -> bool {
+        match pieces.get(number.saturating_add(1)) {
+            Some(next) => self.ends_line(next.gap),
+            None => true,
+        }
     }
 
     /// Returns the indentation of a line that begins after a gap.

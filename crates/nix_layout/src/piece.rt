@@ -2,6 +2,10 @@
 //!
 //! A layout has a piece for nearly every token, so their numbers have 32 bits: a text has fewer than 2^32 bytes.
 
+ghost use Rattle.std.specs.Prelude.{◌≡◌, ◌-◌, ◌^◌, ◌==◌, min};
+ghost use Rattle.nix_layout.specs.StoredNumbers.{stored};
+ghost use Rattle.nix_layout.specs.Pieces.{has_lines, last_width_of, IsWord, IsNarrowed};
+
 /// The gap between a piece and the one before it.
 #[derive(Clone, Copy, PartialEq, Eq)]
 pub struct Gap {
@@ -43,6 +47,23 @@ pub struct MovedLines {
     pub has_last: bool,
 }
 
+/// What a piece is.
+#[derive(Clone, Copy, PartialEq, Eq)]
+pub enum PieceKind {
+    /// A token, or a whole string or path.
+    Item,
+    /// A comment with `#`: the line has to end after it.
+    LineComment,
+    /// A comment in `/* */` that becomes one with `#` where the line ends after it.
+    ShortComment,
+    /// Another comment.
+    BlockComment,
+    /// A comma that is before comments in the new text, and after them in the old one.
+    MovedComma,
+    /// A comma that the old text does not have. It is written if its group is broken.
+    LastComma,
+}
+
 /// A token, a comment, or a whole string or path, with the gap before it.
 #[derive(Clone, Copy, PartialEq, Eq)]
 pub struct Piece {
@@ -55,10 +76,8 @@ pub struct Piece {
     first_moved: u32,
     end_moved: u32,
     has_last_moved: bool,
-    /// Whether it is a comment.
-    pub is_comment: bool,
-    /// Whether the line has to end after it: whether it is a comment with `#`.
-    pub ends_line: bool,
+    /// What it is.
+    pub kind: PieceKind,
     /// The number of line feeds between it and the piece before it in the old text; 255 if there are more.
     pub line_feeds: u8,
     /// The gap before it.
@@ -93,14 +112,44 @@ pub fn line_feeds_in(text: &str) -> u8 {
 }
 
 /// Returns a number of bytes, characters, pieces, groups or lines of a text, as it is stored. A sum of widths that is 2^32 or more becomes 2^32 - 1.
-pub fn as_stored(number: usize) -> u32 {
-    u32::try_from(number).unwrap_or(u32::MAX)
+pub fn as_stored(number: usize) -> u32
+    ensures { result ≡ stored number }
+{
+    if number < u32::MAX as usize {
+        number as u32
+    } else {
+        u32::MAX
+    }
+}
+
+/// Returns the contents of a comment in `/* */` that can be written as one with `#`: it has one line, and no `*` beside those of its ends.
+pub fn short_contents(comment: &str) -> Option<&str> {
+    let inside = comment.strip_prefix("/*")?.strip_suffix("*/")?;
+    let contents = inside.trim_matches([' ', '\t']);
+    let is_short = !contents.is_empty()
+        && !inside.contains(['\n', '\r'])
+        && !contents.starts_with('*')
+        && !contents.ends_with('*');
+    if is_short { Some(contents) } else { None }
+}
+
+// Returns the kind of a comment.
+fn kind_of_comment(text: &str) -> PieceKind {
+    if text.starts_with('#') {
+        PieceKind::LineComment
+    } else if short_contents(text).is_some() {
+        PieceKind::ShortComment
+    } else {
+        PieceKind::BlockComment
+    }
 }
 
 impl Piece {
     /// Returns a piece of the old text with no gap yet, whose characters are ASCII and not line feeds: a name, or a token of a text without errors that is
     /// not white space, a comment or a part of a string.
-    pub fn of_word(start: usize, end: usize) -> Piece {
+    pub fn of_word(start: usize, end: usize) -> Piece
+        ensures { IsWord start end result }
+    {
         Piece {
             start: as_stored(start),
             end: as_stored(end),
@@ -109,8 +158,7 @@ impl Piece {
             first_moved: NO_LINE,
             end_moved: NO_LINE,
             has_last_moved: false,
-            is_comment: false,
-            ends_line: false,
+            kind: PieceKind::Item,
             line_feeds: 0,
             gap: Gap::nothing(),
         }
@@ -136,10 +184,33 @@ impl Piece {
     /// Returns the piece of a comment, with no gap yet.
     pub fn of_comment(start: usize, text: &str) -> Piece {
         Piece {
-            is_comment: true,
-            ends_line: text.starts_with('#'),
+            kind: kind_of_comment(text),
             ..Piece::new(start, text)
         }
+    }
+
+    /// Returns the piece of a comma after an offset of the old text, where the old text has none. A last comma takes no room, since it is never on one line
+    /// with the rest of its group.
+    pub fn of_comma(start: usize, kind: PieceKind, gap: Gap) -> Piece {
+        Piece {
+            width: u32::from(kind == PieceKind::MovedComma),
+            kind,
+            gap,
+            ..Piece::of_word(start, start)
+        }
+    }
+
+    /// Returns whether it is a comment.
+    pub fn is_comment(&self) -> bool {
+        matches!(
+            self.kind,
+            PieceKind::LineComment | PieceKind::ShortComment | PieceKind::BlockComment
+        )
+    }
+
+    /// Returns whether the line has to end after it: whether it is a comment with `#`.
+    pub fn ends_line(&self) -> bool {
+        self.kind == PieceKind::LineComment
     }
 
     /// Returns the same piece after a number of line feeds and a gap.
@@ -164,11 +235,14 @@ impl Piece {
     }
 
     /// Returns the same piece without a number of blanks of its first line, and of its last line if it has several.
-    pub fn narrowed(self, first: usize, last: usize) -> Piece {
+    pub fn narrowed(self, first: usize, last: usize) -> Piece
+        ensures { IsNarrowed first last self result }
+    {
         let width = self.width().saturating_sub(first);
-        let last_width = self
-            .last_width()
-            .map_or(ONE_LINE, |width| as_stored(width.saturating_sub(last)));
+        let last_width = match self.last_width() {
+            Some(width) => as_stored(width.saturating_sub(last)),
+            None => ONE_LINE,
+        };
         Piece {
             width: as_stored(width),
             last_width,
@@ -177,27 +251,37 @@ impl Piece {
     }
 
     /// Returns its start in the old text, in bytes.
-    pub fn start(&self) -> usize {
+    pub fn start(&self) -> usize
+        ensures { result ≡ self.now.start }
+    {
         self.start as usize
     }
 
     /// Returns its end in the old text, in bytes.
-    pub fn end(&self) -> usize {
+    pub fn end(&self) -> usize
+        ensures { result ≡ self.now.end }
+    {
         self.end as usize
     }
 
     /// Returns the number of characters of its first line.
-    pub fn width(&self) -> usize {
+    pub fn width(&self) -> usize
+        ensures { result ≡ self.now.width }
+    {
         self.width as usize
     }
 
     /// Returns whether it has several lines.
-    pub fn has_lines(&self) -> bool {
+    pub fn has_lines(&self) -> bool
+        ensures { result ≡ has_lines self.now }
+    {
         self.last_width != ONE_LINE
     }
 
     /// Returns the number of characters of its last line, if it has several lines. If that line is moved, it counts from the indentation of the code.
-    pub fn last_width(&self) -> Option<usize> {
+    pub fn last_width(&self) -> Option<usize>
+        ensures { result ≡ last_width_of self.now }
+    {
         if self.has_lines() {
             Some(self.last_width as usize)
         } else {

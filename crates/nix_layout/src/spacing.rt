@@ -324,11 +324,6 @@ fn broken(spacing: Spacing) -> Spacing {
     }
 }
 
-/// Returns the white space after a comma that a comment has moved to the start of its line.
-pub fn after_first_comma() -> Spacing {
-    SPACED
-}
-
 /// Returns the white space before the first item of a text, and after the last one.
 pub fn around_text() -> Spacing {
     keeping_empty(level(GLUED))

@@ -3,7 +3,7 @@
 use crate::layout::Layout;
 use crate::line_ends::line_end_of;
 use crate::modes::{LineState, MOST_BLANKS, Modes};
-use crate::piece::{Gap, MovedLines, Piece};
+use crate::piece::{Gap, MovedLines, Piece, PieceKind, short_contents};
 use std::alloc::{AllocError, Global};
 
 // The spaces at the start of a line.
@@ -27,7 +27,7 @@ struct Writer<'a> {
     layout: &'a Layout,
     modes: Modes,
     made: String,
-    // The line end, and whether the last piece is a comment with `#`, which has its own carriage return.
+    // The line end, and whether the last piece is a comment with `#` of the old text, which has its own carriage return.
     line_end: &'static str,
     follows_comment: bool,
     // The line that is being written.
@@ -111,27 +111,56 @@ impl<'a> Writer<'a> {
         }
     }
 
-    // Copies a piece.
-    fn write_piece(&mut self, piece: &Piece) -> Result<(), AllocError> {
+    // Writes a comment in `/* */` as one with `#` if the line ends after it, or else copies it.
+    fn write_short_comment(&mut self, piece: &Piece, number: usize) -> Result<(), AllocError> {
+        let comment = self.text.get(piece.start()..piece.end()).unwrap_or("");
+        match short_contents(comment) {
+            Some(contents) if self.modes.ends_line_after(&self.layout.pieces, number) => {
+                self.made.push_str("# ")?;
+                self.made.push_str(contents)
+            }
+            _ => self.made.push_str(comment),
+        }
+    }
+
+    // Copies a token, a string, a path or a comment.
+    fn copy_piece(&mut self, piece: &Piece) -> Result<(), AllocError> {
         match piece.moved_lines() {
-            Some(moved_lines) => self.write_lines(piece, moved_lines)?,
-            None => self.copy(piece.start(), piece.end())?,
+            Some(moved_lines) => self.write_lines(piece, moved_lines),
+            None => self.copy(piece.start(), piece.end()),
+        }
+    }
+
+    // Writes a piece.
+    fn write_piece(&mut self, piece: &Piece, number: usize) -> Result<(), AllocError> {
+        match piece.kind {
+            PieceKind::ShortComment => self.write_short_comment(piece, number)?,
+            PieceKind::MovedComma | PieceKind::LastComma => self.made.push(',')?,
+            _ => self.copy_piece(piece)?,
         }
         self.line_state.column = self.column_after(piece);
-        self.follows_comment = piece.ends_line;
+        self.follows_comment = piece.ends_line();
         Ok(())
+    }
+
+    // Returns whether a piece is written: a last comma only if its group is broken.
+    fn is_written(&self, piece: &Piece) -> bool {
+        piece.kind != PieceKind::LastComma || self.modes.is_broken(piece.gap.group)
     }
 
     // Writes all pieces.
     fn write(mut self) -> Result<Output, AllocError> {
         let layout = self.layout;
         for (number, piece) in layout.pieces.iter().enumerate() {
+            if !self.is_written(piece) {
+                continue;
+            }
             if number > 0 {
                 self.write_gap(piece.gap)?;
             }
             let line_state = self.line_state;
             self.modes.open(layout, number, line_state)?;
-            self.write_piece(piece)?;
+            self.write_piece(piece, number)?;
         }
         if !layout.pieces.is_empty() {
             self.push_line_end()?;

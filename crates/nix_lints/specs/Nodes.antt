@@ -2,13 +2,15 @@
 use Rattle.std.specs.Prelude.{List, flat_map, Option, None}
 use Rattle.std.specs.Option.{option_to_list}
 use Rattle.rnix_kinds.specs.declared.kinds.SyntaxKind.{SyntaxKind}
-use Rattle.rnix_kinds.specs.declared.kinds.SyntaxKind.TheVariants.{NODE_APPLY, NODE_PATH_REL, NODE_PAREN, NODE_ATTRPATH_VALUE, NODE_LITERAL, NODE_DYNAMIC, NODE_STRING, NODE_WITH, NODE_PAT_BIND}
+use Rattle.rnix_kinds.specs.declared.kinds.SyntaxKind.TheVariants.{NODE_APPLY, NODE_PATH_REL, NODE_PAREN, NODE_ATTRPATH_VALUE, NODE_LITERAL}
+use Rattle.rnix_kinds.specs.declared.kinds.SyntaxKind.TheVariants.{NODE_DYNAMIC, NODE_STRING, NODE_WITH, NODE_PAT_BIND}
 use Rattle.rnix_green.specs.Tree.{Located, item_of}
 use Rattle.rnix_green.specs.Walk.{nodes_in, elements_of}
 use Rattle.nix_lints.specs.Found.{Found}
 use Rattle.nix_lints.specs.{CalledData.called_data, BarePath.bare_path, Parentheses.needless_parentheses, ManualInherit.manual_inherit}
 use Rattle.nix_scopes.specs.{Scopes.Resolved, Resolved.resolved_in}
-use Rattle.nix_lints.specs.{LargeInteger.large_integer, DynamicName.dynamic_name, NeedlessWith.needless_with, RepeatedArgument.repeated_argument}
+use Rattle.nix_lints.specs.{LargeInteger.large_integer, DynamicName.dynamic_name, NeedlessWith.needless_with}
+use Rattle.nix_lints.specs.{RepeatedArgument.repeated_argument}
 
 -- the lint for a kind of node, given the references of the text
 abbrev pub lint_of : SyntaxKind → List Resolved → Located → Option Found

@@ -8,3 +8,7 @@ pub mod UndefinedLemmas
 pub mod DefinedLemmas
 pub mod NotUpdatedLemmas
 pub mod UpdatedLemmas
+pub mod SoughtLists
+pub mod RepeatedUpdates
+pub mod SeveralLemmas
+pub mod SourceLemmas

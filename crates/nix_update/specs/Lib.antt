@@ -2,6 +2,7 @@ pub mod Words
 pub mod NewValue
 pub mod Path
 pub mod Inner
+pub mod Lists
 pub mod PathMatches
 pub mod PathSteps
 pub mod SameNames
@@ -9,4 +10,7 @@ pub mod SpecialNames
 pub mod Updated
 pub mod NotUpdated
 pub mod Results
+pub mod FullUpdates
+pub mod Several
+pub mod Sources
 pub mod OfRequest

@@ -33,12 +33,13 @@ use Rattle.nix_update.specs.declared.request.Update.{Update}
 use Rattle.nix_update.specs.declared.steps.PathStep.{PathStep}
 use Rattle.nix_update.specs.declared.value.Form.{Form}
 use Rattle.nix_update.specs.declared.value.Form.TheVariants as forms
+use Rattle.nix_update.specs.Lists.{list_in_if, element_with}
 use Rattle.nix_update.specs.NewValue.{IsValueOf, IsNoValue, IsNotSetTo}
 use Rattle.nix_update.specs.PathMatches.{is_removable}
 use Rattle.nix_update.specs.PathSteps.{definitions_in}
 use Rattle.nix_update.specs.SpecialNames.{HasSpecialName}
 use Rattle.nix_update.specs.SameNames.{HaveSameMeaning, is_open_among, no_range}
-use Rattle.nix_update.specs.Updated.{change_of, set_at, entry_at, last_entry, entry_text, IsEntryAdded, insertion_sets_in, IsRest}
+use Rattle.nix_update.specs.Updated.{change_of, parent_at, member_at, last_member, entry_text, IsMemberInserted, IsListWith, IsEntryAdded, insertion_sets_in, IsRest}
 
 -- whether an expression is a string without interpolations
 abbrev pub is_plain_string : Located → Bool
@@ -57,11 +58,6 @@ pub data IsValueNotSet (form : Form) (value text : List ℕ) (root entry : Locat
 abbrev pub IsInexact : PathMatch → Reason → Type 0
 IsInexact matches.Inherited why = why ≡ reason.Inherited
 IsInexact _ why = why ≡ reason.PartialDefinition
-
--- why the entry that defines the attribute does not get another value: it does not define all of the attribute, or its value is not set
-pub data IsEntryNotSet (form : Form) (value text : List ℕ) (root : Located) (definition : Definition) (why : Reason) : Type 0 where
-  inexact : ¬ (definition.path_match ≡ matches.Exact) → IsInexact definition.path_match why → IsEntryNotSet form value text root definition why
-  exact : definition.path_match ≡ matches.Exact → IsValueNotSet form value text root definition.entry why → IsEntryNotSet form value text root definition why
 
 -- a reference in a text that begins outside a range and may come from a `with` has one of these names
 pub record HasOpenName (root : Located) (range : Extent) (names : List (List ℕ)) : Type 0 where
@@ -105,7 +101,7 @@ pub record IsMeaningChangedWith (text : List ℕ) (root set : Located) (made : L
   pub found : IsResolution root names
   pub others : Resolution
   pub others_found : IsResolution (root_of read) others
-  pub differs : (entry : Located) → entry_at (set_at (item_of set).start (root_of read)) ≡ Some entry →
+  pub differs : (entry : Located) → member_at (parent_at (item_of set).kind (item_of set).start (root_of read)) ≡ Some entry →
       ¬ HaveSameMeaning (change_of entry made text) others names
 
 -- why a text is refused in which a set has one more entry
@@ -115,23 +111,63 @@ pub data IsAdditionRefused (names : List (List ℕ)) (steps : List PathStep) (at
   in_with : why ≡ reason.ChangedMeaning → HasOpenName root no_range (drop at names) → IsAdditionRefused names steps at text root set made why
   changed : why ≡ reason.ChangedMeaning → IsMeaningChangedWith text root set made → IsAdditionRefused names steps at text root set made why
 
--- why a set gets no entry after its last one, or if it has none, before its closing bracket
-abbrev pub IsEntryNotInserted : Refusal → Option Located → List ℕ → Located → Located → List ℕ → Type 0
-IsEntryNotInserted refusal None text root set entry = IsNotInsertedInside refusal text root set k.NODE_ATTRPATH_VALUE entry
-IsEntryNotInserted refusal (Some last) text root set entry = IsNotInsertedAfter refusal text root last k.NODE_ATTRPATH_VALUE entry
+-- why a set or a list gets no member of a kind after its last one, or if it has none, before its closing bracket
+abbrev pub IsMemberNotInserted : Refusal → Option Located → List ℕ → Located → Located → SyntaxKind → List ℕ → Type 0
+IsMemberNotInserted refusal None text root e kind new = IsNotInsertedInside refusal text root e kind new
+IsMemberNotInserted refusal (Some last) text root e kind new = IsNotInsertedAfter refusal text root last kind new
 
 -- why a set gets no entry with these names, whose value is what a value means
 pub record IsEntryNotAdded (refusal : Refusal) (form : Form) (value names text : List ℕ) (root set : Located) : Type 0 where
   pub kind : SyntaxKind
   pub new : List ℕ
   pub is_value : IsValueOf form value kind new
-  pub not_inserted : IsEntryNotInserted refusal (last_entry set) text root set (entry_text names new)
+  pub not_inserted : IsMemberNotInserted refusal (last_member set) text root set k.NODE_ATTRPATH_VALUE (entry_text names new)
 
 -- why a set gets no such entry: there is no value, or the new text is read otherwise
 pub data IsEntryRefused (form : Form) (value names text : List ℕ) (root set : Located) (why : Reason) : Type 0 where
   no_value : why ≡ reason.NotAnExpression → IsNoValue form value → IsEntryRefused form value names text root set why
   not_added : (refusal : Refusal) → why ≡ reason.Edit refusal → IsEntryNotAdded refusal form value names text root set →
       IsEntryRefused form value names text root set why
+
+-- why a list gets no new member: the new text is read otherwise, or a name means something else in it
+pub data IsNotAppended (text : List ℕ) (root list : Located) (kind : SyntaxKind) (new : List ℕ) (why : Reason) : Type 0 where
+  not_inserted : (refusal : Refusal) → why ≡ reason.Edit refusal → IsMemberNotInserted refusal (last_member list) text root list kind new →
+      IsNotAppended text root list kind new why
+  changed : (made : List ℕ) → why ≡ reason.ChangedMeaning → IsMemberInserted (last_member list) text root list kind new made →
+      IsMeaningChangedWith text root list made → IsNotAppended text root list kind new why
+
+-- why no element of a list with a text is removed: there is none, or the rest of the text is read otherwise, or a name means something else in it
+pub data IsElementNotRemoved (text : List ℕ) (root list : Located) (new : List ℕ) (why : Reason) : Type 0 where
+  none : why ≡ reason.NoElement → element_with new list ≡ None → IsElementNotRemoved text root list new why
+  not_removed : (element : Located) (refusal : Refusal) → why ≡ reason.Edit refusal → element_with new list ≡ Some element →
+      IsNotRemoved refusal text root element → IsElementNotRemoved text root list new why
+  changed : (element : Located) (made : List ℕ) → why ≡ reason.ChangedMeaning → element_with new list ≡ Some element →
+      IsRemoved text root element made → IsMeaningChangedWithout text root element made → IsElementNotRemoved text root list new why
+
+-- why a list is not changed by an action
+abbrev pub IsListNotChanged : Action → List ℕ → Located → Located → SyntaxKind → List ℕ → Reason → Type 0
+IsListNotChanged action.RemoveItem text root list kind new why = IsElementNotRemoved text root list new why
+IsListNotChanged _ text root list kind new why = IsNotAppended text root list kind new why
+
+-- why the list that the value of an entry writes out is not changed: there is none, or no element that a value means, or the list is not changed
+pub data IsElementNotChanged (act : Action) (form : Form) (value text : List ℕ) (root entry : Located) (why : Reason) : Type 0 where
+  no_list : why ≡ reason.NotAList → list_in_if (child_of is_expr 0 entry) ≡ None → IsElementNotChanged act form value text root entry why
+  no_value : why ≡ reason.NotAnExpression → IsNoValue form value → IsElementNotChanged act form value text root entry why
+  not_changed : IsListWith form value entry (λ list kind new. IsListNotChanged act text root list kind new why) →
+      IsElementNotChanged act form value text root entry why
+
+-- why the value of an entry is not changed by an action
+abbrev pub IsValueNotChanged : Action → Form → List ℕ → List ℕ → Located → Located → Reason → Type 0
+IsValueNotChanged action.Append form value text root entry why = IsElementNotChanged action.Append form value text root entry why
+IsValueNotChanged action.RemoveItem form value text root entry why = IsElementNotChanged action.RemoveItem form value text root entry why
+IsValueNotChanged _ form value text root entry why = IsValueNotSet form value text root entry why
+
+-- why the value of the entry that defines the attribute is not changed: the entry does not define all of the attribute, or its value is not changed
+pub data IsEntryNotChanged (update : Update) (text : List ℕ) (root : Located) (definition : Definition) (why : Reason) : Type 0 where
+  inexact : ¬ (definition.path_match ≡ matches.Exact) → IsInexact definition.path_match why → IsEntryNotChanged update text root definition why
+  exact : definition.path_match ≡ matches.Exact →
+      IsValueNotChanged update.action update.form update.value.now text root definition.entry why →
+      IsEntryNotChanged update text root definition why
 
 -- the path has no name with an index, or the name begins inside a character
 abbrev pub HasNoRest : List ℕ → List ℕ → ℕ → Type 0
@@ -156,25 +192,24 @@ pub data IsNotAdded (is_forced : Bool) (form : Form) (value path starts : List �
       IsNotAddedTo is_forced form value path starts names steps target text root why →
       IsNotAdded is_forced form value path starts names steps text root why
 
--- why the value of a name of a `let` is not set: no entry defines it, or several do, or the only one does not get another value
-pub data IsNotSetInLet (update : Update) (names : List (List ℕ)) (steps : List PathStep) (text : List ℕ) (root : Located) (why : Reason) : Type 0 where
-  none : why ≡ reason.NoAttribute → definitions_in names true steps ≡ [] → IsNotSetInLet update names steps text root why
-  several : why ≡ reason.SeveralEntries → 1 < length (definitions_in names true steps) → IsNotSetInLet update names steps text root why
+-- why the value of a name of a `let` is not changed: no entry defines it, or several do, or that of the only one is not changed
+pub data IsNotChangedInLet (update : Update) (names : List (List ℕ)) (steps : List PathStep) (text : List ℕ) (root : Located) (why : Reason) : Type 0 where
+  none : why ≡ reason.NoAttribute → definitions_in names true steps ≡ [] → IsNotChangedInLet update names steps text root why
+  several : why ≡ reason.SeveralEntries → 1 < length (definitions_in names true steps) → IsNotChangedInLet update names steps text root why
   only : (definition : Definition) → definitions_in names true steps ≡ definition ∷ [] →
-      IsEntryNotSet update.form update.value.now text root definition why → IsNotSetInLet update names steps text root why
+      IsEntryNotChanged update text root definition why → IsNotChangedInLet update names steps text root why
 
 -- why an attribute that no entry defines is not updated
 abbrev pub IsUndefinedRefused : Action → Update → List (List ℕ) → List ℕ → List ℕ → List PathStep → List ℕ → Located → Reason → Type 0
 IsUndefinedRefused action.Remove update names path starts steps text root why = why ≡ reason.NoAttribute
 IsUndefinedRefused action.Add update names path starts steps text root why =
     IsNotAdded update.is_forced update.form update.value.now path starts names steps text root why
-IsUndefinedRefused action.Set update names path starts steps text root why = IsNotSetInLet update names steps text root why
+IsUndefinedRefused _ update names path starts steps text root why = IsNotChangedInLet update names steps text root why
 
 -- why an attribute that a single entry defines is not updated
 abbrev pub IsDefinitionRefused : Action → Update → List (List ℕ) → List PathStep → List ℕ → Located → Definition → Reason → Type 0
 IsDefinitionRefused action.Remove update names steps text root definition why = IsEntryNotRemoved update.is_forced names steps text root definition why
-IsDefinitionRefused action.Set update names steps text root definition why = IsEntryNotSet update.form update.value.now text root definition why
-IsDefinitionRefused action.Add update names steps text root definition why = IsEntryNotSet update.form update.value.now text root definition why
+IsDefinitionRefused _ update names steps text root definition why = IsEntryNotChanged update text root definition why
 
 -- why an attribute is not updated: no entry of a set defines it, or several do, or the only one is not updated
 pub data IsAttributeRefused (update : Update) (names : List (List ℕ)) (path starts : List ℕ) (steps : List PathStep) (text : List ℕ) (root : Located)

@@ -1,5 +1,5 @@
 -- When the names in a text mean the same in another text that lacks one of its entries.
-use Rattle.std.specs.Prelude.{◌≡◌, ℕ, ◌-◌, nat_lt, nat_le, ◌||◌, ◌&&◌, bytes_eq, Bool, false, List, Option, Some, None, filter, slice_get, if◌then◌else◌}
+use Rattle.std.specs.Prelude.{◌≡◌, ℕ, ◌+◌, ◌-◌, nat_lt, nat_le, ◌||◌, ◌&&◌, bytes_eq, Bool, false, List, Option, Some, None, filter, slice_get, if◌then◌else◌}
 use Rattle.std.specs.List.{All, AllZip, list_any}
 use Rattle.std.specs.Cow.{cow_str_bytes}
 use Rattle.rnix_green.specs.Range.{Extent}
@@ -16,7 +16,7 @@ abbrev pub shifted : Change → ℕ → Option ℕ
 shifted change offset =
     if nat_lt offset change.start then Some offset
     else (if nat_lt offset change.end then None
-    else (if nat_le change.by offset then Some (offset - change.by) else None))
+    else (if nat_le change.longer (offset + change.shorter) then Some (offset + change.shorter - change.longer) else None))
 
 -- where a node begins
 abbrev pub start_of : Located → ℕ

@@ -3,11 +3,11 @@
 ghost use Rattle.std.specs.Prelude.{◌≡◌, string_bytes, IfOk, IfSome, IfNone};
 ghost use Rattle.rnix_edit.specs.Edited.{IfDone, IfRefused};
 ghost use Rattle.nix_update.specs.NewValue.{IsNoValue, IsSetTo, IsNotSetTo};
-ghost use Rattle.nix_update.specs.Updated.{last_entry, entry_text, IsEntryInserted, IsEntryAdded};
-ghost use Rattle.nix_update.specs.NotUpdated.{IsEntryNotInserted, IsEntryNotAdded};
+ghost use Rattle.nix_update.specs.Updated.{is_member, last_member, entry_text, IsMemberInserted, IsEntryAdded};
+ghost use Rattle.nix_update.specs.NotUpdated.{IsMemberNotInserted, IsEntryNotAdded};
 
 use crate::value::{Form, value_of};
-use rnix::ast::{AstNode, Entry};
+use rnix::ast::{AstNode, Entry, Expr};
 use rnix::{SyntaxKind, SyntaxNode};
 use rnix_edit::{Edited, insert_after, insert_inside, replace};
 use std::alloc::{AllocError, Global};
@@ -32,13 +32,20 @@ pub fn set_value(
     Ok(Some(edited))
 }
 
-/// Returns the last entry of a set.
-pub fn last_entry<'t>(set: &SyntaxNode<'t>) -> Option<SyntaxNode<'t>>
-    ensures { result ≡ last_entry set.now }
+// Returns whether a node of a kind is an entry of a set, or an element of a list.
+fn is_member(kind: SyntaxKind) -> bool
+    ensures { result ≡ is_member kind }
+{
+    Entry::can_cast(kind) || Expr::can_cast(kind)
+}
+
+/// Returns the last entry of a set, or the last element of a list.
+pub fn last_member<'t>(parent: &SyntaxNode<'t>) -> Option<SyntaxNode<'t>>
+    ensures { result ≡ last_member parent.now }
 {
     let mut last = None;
-    for node in set.children() {
-        if Entry::can_cast(node.kind()) {
+    for node in parent.children() {
+        if is_member(node.kind()) {
             last = Some(node);
         }
     }
@@ -56,21 +63,21 @@ fn entry_text(alloc: Global, names: &str, new: &str) -> Result<String, AllocErro
     Ok(text)
 }
 
-// Returns the text in which a set has one more entry, after its others.
-fn insert_entry(
+/// Returns the text in which a set or a list has one more member of a kind, after its others.
+pub fn insert_member(
     alloc: Global,
     text: &str,
     root: &SyntaxNode<'_>,
-    set: &SyntaxNode<'_>,
-    entry: &str,
+    parent: &SyntaxNode<'_>,
+    kind: SyntaxKind,
+    new: &str,
 ) -> Result<Edited, AllocError>
-    ensures done { IfOk result (IfDone (IsEntryInserted (last_entry set.now) text.now root.now set.now entry.now)) }
-    ensures refused { IfOk result (IfRefused (λ refusal. IsEntryNotInserted refusal (last_entry set.now) text.now root.now set.now entry.now)) }
+    ensures done { IfOk result (IfDone (IsMemberInserted (last_member parent.now) text.now root.now parent.now kind new.now)) }
+    ensures refused { IfOk result (IfRefused (λ refusal. IsMemberNotInserted refusal (last_member parent.now) text.now root.now parent.now kind new.now)) }
 {
-    let kind = SyntaxKind::NODE_ATTRPATH_VALUE;
-    match last_entry(set) {
-        Some(last) => insert_after(alloc, text, root, &last, kind, entry),
-        None => insert_inside(alloc, text, root, set, kind, entry),
+    match last_member(parent) {
+        Some(last) => insert_after(alloc, text, root, &last, kind, new),
+        None => insert_inside(alloc, text, root, parent, kind, new),
     }
 }
 
@@ -93,6 +100,7 @@ pub fn add_value(
         return Ok(None);
     };
     let entry = entry_text(alloc, names, new.text.as_str())?;
-    let edited = insert_entry(alloc, text, root, set, entry.as_str())?;
+    let kind = SyntaxKind::NODE_ATTRPATH_VALUE;
+    let edited = insert_member(alloc, text, root, set, kind, entry.as_str())?;
     Ok(Some(edited))
 }

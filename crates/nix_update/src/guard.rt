@@ -10,9 +10,9 @@ ghost use Rattle.nix_scopes.specs.Binders.{is_recursive};
 ghost use Rattle.nix_update.specs.declared.outcome.Reason.TheVariants as reason;
 ghost use Rattle.nix_update.specs.SpecialNames.{is_special, is_special_if, is_special_step, HasSpecialName, HasNoSpecialName};
 ghost use Rattle.nix_update.specs.NotUpdated.{HasOpenName, IsMeaningChangedWith, IsMeaningChangedWithout, IsAdditionRefused, IsRemovalRefused};
-ghost use Rattle.nix_update.specs.Updated.{set_at, entry_at, change_of, IsMeaningKeptWith, IsMeaningKeptWithout};
+ghost use Rattle.nix_update.specs.Updated.{parent_at, member_at, change_of, IsMeaningKeptWith, IsMeaningKeptWithout};
 
-use crate::change::last_entry;
+use crate::change::last_member;
 use crate::meaning::{Change, first_difference};
 use crate::outcome::{Reason, Refused, refuse_at};
 use crate::steps::PathStep;
@@ -97,23 +97,23 @@ fn set_refusal(site: Site<'_, '_>) -> Option<Refused>
     Some(refuse_at(Reason::SpecialName, set.text_range().start()))
 }
 
-// Returns the first set inside a node that begins at an offset.
-fn set_at<'t>(root: &SyntaxNode<'t>, start: usize) -> Option<SyntaxNode<'t>>
-    ensures { result ≡ set_at start root.now }
+// Returns the first node of a kind inside a node that begins at an offset.
+fn parent_at<'t>(root: &SyntaxNode<'t>, kind: SyntaxKind, start: usize) -> Option<SyntaxNode<'t>>
+    ensures { result ≡ parent_at kind start root.now }
 {
     for node in root.descendants() {
-        if node.kind() == SyntaxKind::NODE_ATTR_SET && node.text_range().start() == start {
+        if node.kind() == kind && node.text_range().start() == start {
             return Some(node);
         }
     }
     None
 }
 
-// Returns the last entry of that set.
-fn entry_at<'t>(root: &SyntaxNode<'t>, start: usize) -> Option<SyntaxNode<'t>>
-    ensures { result ≡ entry_at (set_at start root.now) }
+// Returns the last entry or element of that node.
+fn member_at<'t>(root: &SyntaxNode<'t>, kind: SyntaxKind, start: usize) -> Option<SyntaxNode<'t>>
+    ensures { result ≡ member_at (parent_at kind start root.now) }
 {
-    last_entry(&set_at(root, start)?)
+    last_member(&parent_at(root, kind, start)?)
 }
 
 // Returns the entry that a longer text has in addition to a shorter one.
@@ -124,12 +124,14 @@ fn change_of(entry: &SyntaxNode<'_>, longer: &str, shorter: &str) -> Change
     Change {
         start: range.start(),
         end: range.end(),
-        by: longer.len().saturating_sub(shorter.len()),
+        longer: longer.len(),
+        shorter: shorter.len(),
     }
 }
 
-// Returns the offset of the first name that means something else in the text with a new last entry of a set, or `None` if all names mean the same.
-fn difference_with(
+/// Returns the offset of the first name that means something else in the text with a new last entry of a set or element of a list, or `None` if all names mean
+/// the same.
+pub fn difference_with(
     alloc: Global,
     text: &str,
     root: &SyntaxNode<'_>,
@@ -144,7 +146,7 @@ fn difference_with(
     let new = read.syntax();
     let names = resolve(alloc, root)?;
     let others = resolve(alloc, &new)?;
-    let Some(entry) = entry_at(&new, start) else {
+    let Some(entry) = member_at(&new, set.kind(), start) else {
         return Ok(Some(start));
     };
     match first_difference(change_of(&entry, made, text), &others, &names) {
@@ -153,8 +155,8 @@ fn difference_with(
     }
 }
 
-// Returns the offset of the first name that means something else in the text without an entry, or `None` if all names mean the same.
-fn difference_without(
+/// Returns the offset of the first name that means something else in the text without an entry or element, or `None` if all names mean the same.
+pub fn difference_without(
     alloc: Global,
     text: &str,
     root: &SyntaxNode<'_>,

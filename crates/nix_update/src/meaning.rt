@@ -13,8 +13,9 @@ pub struct Change {
     /// The start and the end of the entry in the longer text.
     pub start: usize,
     pub end: usize,
-    /// The difference of the lengths in bytes.
-    pub by: usize,
+    /// The lengths of the texts in bytes. Where blanks are replaced, the text with the entry may be the shorter one all the same.
+    pub longer: usize,
+    pub shorter: usize,
 }
 
 /// Two names that do not mean the same, or one that is missing: their offsets in the longer and in the shorter text.
@@ -25,15 +26,17 @@ pub struct Difference {
 }
 
 // Returns the offset in the shorter text for an offset in the longer one that is not in the entry.
-fn shifted(change: Change, offset: usize) -> Option<usize>
+fn shifted(change: Change, offset: usize) -> Option<u128>
     ensures { result ≡ shifted change offset }
 {
+    let moved = offset as u128 + change.shorter as u128;
+    let longer = change.longer as u128;
     if offset < change.start {
-        Some(offset)
+        Some(offset as u128)
     } else if offset < change.end {
         None
-    } else if change.by <= offset {
-        Some(offset - change.by)
+    } else if longer <= moved {
+        Some(moved - longer)
     } else {
         None
     }
@@ -65,7 +68,7 @@ fn are_in_same_scope(
 {
     match (longer, shorter) {
         (Some(longer), Some(shorter)) => {
-            shifted(change, start_of(&longer.scope)) == Some(start_of(&shorter.scope))
+            shifted(change, start_of(&longer.scope)) == Some(start_of(&shorter.scope) as u128)
         }
         (None, None) => true,
         _ => false,

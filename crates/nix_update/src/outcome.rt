@@ -24,6 +24,10 @@ pub enum Reason {
     Inherited,
     /// The value is not a string without interpolations.
     NotAString,
+    /// The value writes out no list.
+    NotAList,
+    /// No element of the list has the text of the value.
+    NoElement,
     /// There is no set for the new attribute.
     NoSet,
     /// There are several sets for the new attribute.
@@ -51,7 +55,7 @@ pub struct Refused {
 pub enum Outcome {
     /// The new text.
     Updated(String),
-    /// The new text, in which the value of a name of a `let` is set, and the offset of its entry.
+    /// The new text, in which the value of a name of a `let` is changed, and the offset of its entry.
     SetInLet(String, usize),
     Refused(Refused),
 }
@@ -111,6 +115,8 @@ impl Reason {
             Reason::NotAString => {
                 "its value is not a plain string: --raw or --list replaces any value"
             }
+            Reason::NotAList => "its value is not a list that is written out",
+            Reason::NoElement => "no element of this list is VALUE",
             Reason::NoSet => "there is no set for the attribute: this is not one",
             Reason::SeveralSets => "there are several sets for the attribute: this is the second",
             Reason::ChangedMeaning => {

@@ -11,6 +11,10 @@ pub enum Action {
     Add,
     /// Remove it.
     Remove,
+    /// Add an element to the list that its value writes out, after the others.
+    Append,
+    /// Remove the first element of that list with the text that `Append` would add.
+    RemoveItem,
 }
 
 /// An update: an action on the attribute of a path, and the text and form of its value.

@@ -1,16 +1,17 @@
 //! Setting the value of an entry.
 
 ghost use Rattle.std.specs.Prelude.{IfOk};
-ghost use Rattle.nix_update.specs.NotUpdated.{IfRefused, IsInexact, IsValueNotSet, IsEntryNotSet};
-ghost use Rattle.nix_update.specs.Updated.{IfMade, IsValueSet, IsEntrySet};
+ghost use Rattle.nix_update.specs.NotUpdated.{IfRefused, IsInexact, IsValueNotSet, IsValueNotChanged, IsEntryNotChanged};
+ghost use Rattle.nix_update.specs.Updated.{IfMade, IsValueSet, IsValueChanged, IsEntryChanged};
 
 use crate::change::set_value;
 use crate::definitions::Definition;
+use crate::elements::change_element;
 use crate::node_start::start_of;
 use crate::outcome::{Attempt, Reason, refuse, refuse_at};
 use crate::path_match::PathMatch;
 use crate::plain::is_plain_string;
-use crate::request::Update;
+use crate::request::{Action, Update};
 use crate::value::Form;
 use rnix::SyntaxNode;
 use rnix::ast::{AstNode, Expr};
@@ -46,19 +47,40 @@ fn set_entry_value(
     }
 }
 
-/// Sets the value of an entry that defines the attribute, if it defines all of it.
-pub fn set_entry(
+// Changes the value of an entry.
+fn change_value(
+    alloc: Global,
+    text: &str,
+    root: &SyntaxNode<'_>,
+    update: Update<'_>,
+    entry: &SyntaxNode<'_>,
+) -> Result<Attempt, AllocError>
+    ensures made { IfOk result (IfMade
+        (IsValueChanged update.entry.action update.entry.form update.entry.value.now text.now root.now entry.now)) }
+    ensures refused { IfOk result (IfRefused
+        (IsValueNotChanged update.entry.action update.entry.form update.entry.value.now text.now root.now entry.now)) }
+{
+    match update.action {
+        Action::Append | Action::RemoveItem => change_element(alloc, text, root, update, entry),
+        Action::Set | Action::Add | Action::Remove => {
+            set_entry_value(alloc, text, root, update, entry)
+        }
+    }
+}
+
+/// Changes the value of an entry that defines the attribute, if it defines all of it.
+pub fn change_entry(
     alloc: Global,
     text: &str,
     root: &SyntaxNode<'_>,
     update: Update<'_>,
     definition: &Definition<'_>,
 ) -> Result<Attempt, AllocError>
-    ensures made { IfOk result (IfMade (IsEntrySet update.entry.form update.entry.value.now text.now root.now definition.now)) }
-    ensures refused { IfOk result (IfRefused (IsEntryNotSet update.entry.form update.entry.value.now text.now root.now definition.now)) }
+    ensures made { IfOk result (IfMade (IsEntryChanged update.entry text.now root.now definition.now)) }
+    ensures refused { IfOk result (IfRefused (IsEntryNotChanged update.entry text.now root.now definition.now)) }
 {
     match definition.path_match {
-        PathMatch::Exact => set_entry_value(alloc, text, root, update, &definition.entry),
+        PathMatch::Exact => change_value(alloc, text, root, update, &definition.entry),
         other => Ok(Attempt::Refused(refuse_at(
             inexact_reason(other),
             start_of(&definition.entry),
@@ -66,8 +88,8 @@ pub fn set_entry(
     }
 }
 
-// Returns the refusal to change an entry that does not define all of an attribute.
-fn inexact_reason(path_match: PathMatch) -> Reason
+/// Returns the reason for the refusal to change an entry that does not define all of an attribute.
+pub fn inexact_reason(path_match: PathMatch) -> Reason
     ensures { IsInexact path_match result }
 {
     match path_match {

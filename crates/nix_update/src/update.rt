@@ -3,9 +3,9 @@
 ghost use Rattle.std.specs.Prelude.{◌≡◌, ◌⊎◌, true, length, map, string_bytes, IfOk, IsTrue, IsFalse};
 ghost use Rattle.nix_attributes.specs.Repeated.{repeated_in};
 ghost use Rattle.nix_update.specs.OfRequest.{names_of, IsDefinitionRefusedFor, IsUndefinedOutcome, IsUndefinedRefusedFor, IsOutcomeFor, IsAttributeRefusedFor};
-ghost use Rattle.nix_update.specs.Updated.{IfMade, IfNew, HasNoMoreRepeated, IfUpdated, IfSetInLet, outcome_of, IsOnlySet, IsDefinitionUpdated};
+ghost use Rattle.nix_update.specs.Updated.{IfMade, IfNew, HasNoMoreRepeated, IfUpdated, IfSetInLet, outcome_of, IsOnlyChanged, IsDefinitionUpdated};
 ghost use Rattle.nix_update.specs.declared.outcome.Reason.TheVariants as reason;
-ghost use Rattle.nix_update.specs.NotUpdated.{IfRefused, IfNone, IsNotSetInLet};
+ghost use Rattle.nix_update.specs.NotUpdated.{IfRefused, IfNone, IsNotChangedInLet};
 ghost use Rattle.nix_update.specs.Results.{HasNew, HasMoreRepeated, IsUpdated};
 
 use crate::adding::add;
@@ -16,14 +16,14 @@ use crate::outcome::{Attempt, Outcome, Reason, Refused, refuse, refuse_at, refus
 use crate::path::{Path, path_of};
 use crate::removing::remove_entry;
 use crate::request::{Action, Update};
-use crate::setting::set_entry;
+use crate::setting::change_entry;
 use crate::steps::{PathStep, path_steps};
 use nix_attributes::repeated_attributes;
 use rnix::{Root, SyntaxNode};
 use std::alloc::{AllocError, Global};
 
-// Returns the refusal if several entries define the attribute.
-fn refuse_several(first: &Definition<'_>, second: &Definition<'_>) -> Refused
+/// Returns the refusal if several entries define the attribute.
+pub fn refuse_several(first: &Definition<'_>, second: &Definition<'_>) -> Refused
     ensures { result.reason ≡ reason.SeveralEntries }
 {
     refuse_with_first(
@@ -33,15 +33,15 @@ fn refuse_several(first: &Definition<'_>, second: &Definition<'_>) -> Refused
     )
 }
 
-// Returns the refusal if no entry defines the attribute.
-fn refuse_none(steps: &[PathStep<'_>], root: &SyntaxNode<'_>) -> Refused
+/// Returns the refusal if no entry defines the attribute.
+pub fn refuse_none(steps: &[PathStep<'_>], root: &SyntaxNode<'_>) -> Refused
     ensures { result.reason ≡ reason.NoAttribute }
 {
     let end = deepest_node(steps, root);
     refuse_at(Reason::NoAttribute, start_of(&end))
 }
 
-// Sets the value of a name of a `let`, if no attribute has the path.
+// Changes the value of a name of a `let`, if no attribute has the path.
 fn set_in_let(
     alloc: Global,
     text: &str,
@@ -50,9 +50,9 @@ fn set_in_let(
     steps: &[PathStep<'_>],
     update: Update<'_>,
 ) -> Result<Outcome, AllocError>
-    ensures set { IfOk result (IfSetInLet (IsOnlySet true update.entry (names_of path.now) steps.now text.now root.now)) }
+    ensures set { IfOk result (IfSetInLet (IsOnlyChanged true update.entry (names_of path.now) steps.now text.now root.now)) }
     ensures no_other { IfOk result (IfUpdated (λ made. ⊥)) }
-    ensures refused { IfOk result (IfNone (IsNotSetInLet update.entry (names_of path.now) steps.now text.now root.now)) }
+    ensures refused { IfOk result (IfNone (IsNotChangedInLet update.entry (names_of path.now) steps.now text.now root.now)) }
 {
     let definitions = definitions_of(alloc, &path.names, steps, true)?;
     let Some(definition) = definitions.first() else {
@@ -60,7 +60,7 @@ fn set_in_let(
     };
     match definitions.get(1) {
         Some(second) => Ok(Outcome::Refused(refuse_several(definition, second))),
-        None => match set_entry(alloc, text, root, update, definition)? {
+        None => match change_entry(alloc, text, root, update, definition)? {
             Attempt::Made(made) => Ok(Outcome::SetInLet(made, start_of(&definition.entry))),
             Attempt::Refused(refused) => Ok(Outcome::Refused(refused)),
         },
@@ -84,7 +84,9 @@ fn update_defined(
 {
     match update.action {
         Action::Remove => remove_entry(alloc, text, root, names, steps, update, definition),
-        Action::Set | Action::Add => set_entry(alloc, text, root, update, definition),
+        Action::Set | Action::Add | Action::Append | Action::RemoveItem => {
+            change_entry(alloc, text, root, update, definition)
+        }
     }
 }
 
@@ -106,7 +108,9 @@ fn update_undefined(
             let attempt = add(alloc, text, root, path, steps, update)?;
             Ok(outcome_of(attempt))
         }
-        Action::Set => set_in_let(alloc, text, root, path, steps, update),
+        Action::Set | Action::Append | Action::RemoveItem => {
+            set_in_let(alloc, text, root, path, steps, update)
+        }
     }
 }
 

@@ -37,3 +37,5 @@ pub mod RepeatedNameLemmas
 pub mod JsonLocationLemmas
 pub mod JsonRepeatLemmas
 pub mod JsonDistinctLemmas
+pub mod EachLemmas
+pub mod PathNameExamples

@@ -22,3 +22,5 @@ pub mod ValueDepths
 pub mod RepeatedNames
 pub mod Attached
 pub mod JsonLocations
+pub mod Each
+pub mod PathNames

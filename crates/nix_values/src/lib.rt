@@ -31,3 +31,4 @@ pub use json_reader::data_of_json;
 pub use json_writer::json_of;
 pub use layout::push_indentation;
 pub use notation::{Notation, kept};
+pub use path_names::{PathName, names_of};

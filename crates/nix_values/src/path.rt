@@ -8,7 +8,7 @@ use std::alloc::{AllocError, Global};
 fn inside(items: &[Item], number: usize, name: &PathName) -> Option<usize> {
     let around = items.get(number)?;
     let is_set = matches!(&around.value, Value::Set);
-    let mut index = name.index();
+    let mut index = name.index;
     let start = number.saturating_add(1);
     for (item, found) in items.get(start..)?.iter().enumerate() {
         if found.depth <= around.depth {

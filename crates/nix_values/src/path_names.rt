@@ -1,25 +1,18 @@
 //! The names of a dotted path.
 
+ghost use Rattle.std.specs.Prelude.{◌≡◌, ◌==◌, Some, None, map, option_map, IfOk, OnOk, if◌then◌else◌};
+ghost use Rattle.nix_values.specs.PathNames.{name_of, path_names, with_digit, index_of, unescaped};
+
 use std::alloc::{AllocError, Global};
+use std::mem;
 
 /// A name of a path.
 #[derive(Drop)]
 pub struct PathName {
     /// The name.
     pub text: String,
-    /// Whether it is in quotes. Such a name is that of an attribute, even if it is a number.
-    pub is_quoted: bool,
-}
-
-impl PathName {
-    /// Returns the index of a list item if the name is a number.
-    pub fn index(&self) -> Option<usize> {
-        if self.is_quoted {
-            None
-        } else {
-            self.text.as_str().parse::<usize>().ok()
-        }
-    }
+    /// The index of a list item, if the name is a number. A name in quotes is that of an attribute, even if it is a number.
+    pub index: Option<usize>,
 }
 
 // The part of a path that was read last.
@@ -48,7 +41,9 @@ struct Reading {
 }
 
 // Returns the character that a backslash and a letter mean in quotes.
-fn unescaped(letter: char) -> char {
+fn unescaped(letter: char) -> char
+    ensures { result ≡ unescaped letter }
+{
     match letter {
         'n' => '\n',
         'r' => '\r',
@@ -57,48 +52,142 @@ fn unescaped(letter: char) -> char {
     }
 }
 
+// Returns a number with one more digit, if the byte is one and the number fits.
+fn with_digit(number: usize, byte: u8) -> Option<usize>
+    ensures { result ≡ with_digit number byte }
+{
+    if !byte.is_ascii_digit() {
+        return None;
+    }
+    number.checked_mul(10)?.checked_add((byte - b'0') as usize)
+}
+
+// Returns the index that a name is, if it is digits.
+fn index_of(name: &[u8]) -> Option<usize>
+    ensures { result ≡ index_of name.now }
+{
+    let (first, others) = name.split_first()?;
+    let mut index = with_digit(0, *first)?;
+    let mut rest = others;
+    while let Some((digit, after)) = rest.split_first() {
+        index = with_digit(index, *digit)?;
+        rest = after;
+    }
+    Some(index)
+}
+
 impl Reading {
+    ghost use Rattle.nix_values.specs.PathNames.{name_of, progress_of, added, opened, ended, plain_read, quoted_read, letter_read, finished};
+
     // Adds a character to the name.
-    fn add(&mut self, letter: char, state: State) -> Result<(), AllocError> {
+    fn add(&mut self, letter: char, state: State) -> Result<(), AllocError>
+        ensures { OnOk result (progress_of self.new ≡ added letter state (progress_of self.old)) }
+    {
         self.state = state;
         self.text.push(letter)
     }
 
     // Ends the name.
-    fn end_name(&mut self) -> Result<(), AllocError> {
+    fn end_name(&mut self) -> Result<(), AllocError>
+        ensures { OnOk result (progress_of self.new ≡ ended (progress_of self.old)) }
+    {
         self.names.reserve(1)?;
-        let text = std::mem::replace(&mut self.text, String::new(self.alloc));
-        self.names.push(PathName {
-            text,
-            is_quoted: self.is_quoted,
-        })?;
+        let text = mem::replace(&mut self.text, String::new(self.alloc));
+        let index = if self.is_quoted {
+            None
+        } else {
+            index_of(text.as_str().as_bytes())
+        };
+        self.names.push(PathName { text, index })?;
         self.is_quoted = false;
         self.state = State::Start;
         Ok(())
     }
 
-    // Reads a character. Returns whether it is allowed: only a dot may follow a closing quote.
-    fn read(&mut self, letter: char) -> Result<bool, AllocError> {
-        match (self.state, letter) {
-            (State::Start, '"') => {
-                self.is_quoted = true;
-                self.state = State::Quoted;
-            }
-            (State::Quoted, '"') => self.state = State::Closed,
-            (State::Quoted, '\\') => self.state = State::Escape,
-            (State::Quoted, _) => self.add(letter, State::Quoted)?,
-            (State::Escape, _) => self.add(unescaped(letter), State::Quoted)?,
-            (_, '.') => self.end_name()?,
-            (State::Closed, _) => return Ok(false),
-            (State::Start | State::Plain, _) => self.add(letter, State::Plain)?,
+    // Reads a character of a name without quotes.
+    fn read_plain(&mut self, letter: char) -> Result<(), AllocError>
+        ensures { OnOk result (progress_of self.new ≡ plain_read letter (progress_of self.old)) }
+    {
+        if letter == '.' {
+            self.end_name()
+        } else {
+            self.add(letter, State::Plain)
+        }
+    }
+
+    // Reads a character of a name in quotes.
+    fn read_quoted(&mut self, letter: char) -> Result<(), AllocError>
+        ensures { OnOk result (progress_of self.new ≡ quoted_read letter (progress_of self.old)) }
+    {
+        if letter == '"' {
+            self.state = State::Closed;
+            return Ok(());
+        }
+        if letter == '\\' {
+            self.state = State::Escape;
+            return Ok(());
+        }
+        self.add(letter, State::Quoted)
+    }
+
+    // Reads the first character of a name.
+    fn read_first(&mut self, letter: char) -> Result<(), AllocError>
+        ensures { OnOk result (progress_of self.new ≡ (if letter == 34 then opened (progress_of self.old) else plain_read letter (progress_of self.old))) }
+    {
+        if letter == '"' {
+            self.is_quoted = true;
+            self.state = State::Quoted;
+            return Ok(());
+        }
+        self.read_plain(letter)
+    }
+
+    // Reads the character after a closing quote. Returns whether it is allowed: only a dot is.
+    fn read_closed(&mut self, letter: char) -> Result<bool, AllocError>
+        ensures { IfOk result (λ is_allowed.
+            (if letter == 46 then Some (ended (progress_of self.old)) else None) ≡ (if is_allowed then Some (progress_of self.new) else None)) }
+    {
+        if letter != '.' {
+            return Ok(false);
+        }
+        self.end_name()?;
+        Ok(true)
+    }
+
+    // Reads a character. Returns whether it is allowed.
+    fn read(&mut self, letter: char) -> Result<bool, AllocError>
+        ensures { IfOk result (λ is_allowed. letter_read letter (progress_of self.old) ≡ (if is_allowed then Some (progress_of self.new) else None)) }
+    {
+        match self.state {
+            State::Start => self.read_first(letter)?,
+            State::Plain => self.read_plain(letter)?,
+            State::Quoted => self.read_quoted(letter)?,
+            State::Escape => self.add(unescaped(letter), State::Quoted)?,
+            State::Closed => return self.read_closed(letter),
         }
         Ok(true)
+    }
+
+    // Returns the names, if no quote is open.
+    fn finish(mut self) -> Result<Option<Vec<PathName>>, AllocError>
+        ensures { IfOk result (λ found. option_map (λ names. map name_of names.items) found ≡ finished (progress_of self)) }
+    {
+        match self.state {
+            State::Quoted | State::Escape => Ok(None),
+            State::Start | State::Plain | State::Closed => {
+                self.end_name()?;
+                let Reading { names, .. } = self;
+                Ok(Some(names))
+            }
+        }
     }
 }
 
 /// Returns the names of a dotted path. A name that begins with `"` ends with the next `"` that is not part of an escape, and its escapes are replaced as
 /// in a string of Nix. Returns `None` if no quote ends it, or if something other than a dot follows that quote.
-pub fn names_of(alloc: Global, path: &str) -> Result<Option<Vec<PathName>>, AllocError> {
+pub fn names_of(alloc: Global, path: &str) -> Result<Option<Vec<PathName>>, AllocError>
+    ensures { IfOk result (λ found. option_map (λ names. map name_of names.items) found ≡ path_names path.now) }
+{
     let mut reading = Reading {
         alloc,
         names: Vec::new(alloc),
@@ -106,14 +195,11 @@ pub fn names_of(alloc: Global, path: &str) -> Result<Option<Vec<PathName>>, Allo
         is_quoted: false,
         state: State::Start,
     };
-    for letter in path.chars() {
+    let mut letters = path.chars();
+    while let Some(letter) = letters.next() {
         if !reading.read(letter)? {
             return Ok(None);
         }
     }
-    if matches!(reading.state, State::Quoted | State::Escape) {
-        return Ok(None);
-    }
-    reading.end_name()?;
-    Ok(Some(reading.names))
+    reading.finish()
 }

@@ -71,7 +71,7 @@ pub fn add_names(alloc: Global, read: &Parse, digest: &mut Digest) -> Result<(),
 /// Adds a formatted text, and whether it is the same as the old one.
 pub fn add_formatted(alloc: Global, text: &str, digest: &mut Digest) -> Result<(), AllocError> {
     match formatted(alloc, text)? {
-        Formatting::Formatted(made) => {
+        Formatting::Formatted(made) | Formatting::Retokened(made) => {
             digest.add_text(made.as_str());
             digest.add_number(usize::from(made.as_str() == text));
         }

@@ -6,7 +6,7 @@ use Rattle.rnix_green.specs.{declared.packed.Packed.{Packed}, Forest.{HasText}, 
 use Rattle.rnix_green.proofs.KeptLemmas.{tree_from_kept}
 use Rattle.rnix_grammar.specs.{Fault.{Fault}, Parsed.{IsParsed}, AnnotatedForest.{Token, AnnotatedForest, blank, token, branch, fault, tokens_in, forget, placed_from}}
 use Rattle.rnix_reparse.proofs.OwnTexts.{own_text}
-use Rattle.rnix_c.specs.{declared.compact.{RnixRange.{RnixRange}, RnixLink.{RnixLink}}, KeptArrays.{HoldTree, HoldParse}}
+use Rattle.rnix_c.specs.{declared.compact.{RnixRange.{RnixRange}, RnixLink.{RnixLink}}, KeptArrays.{BeginWithTree, HoldParse}}
 
 -- what holds for all of two concatenated lists holds for the first
 front : {X : Type 0} (P : X → Type 0) (xs ys : List X) → All P (xs ++ ys) → All P xs
@@ -60,7 +60,7 @@ no_faults [] e = refl
 no_faults (first ∷ others) e = absurd (omega arith)
 
 module _ (text : List ℕ) (ranges : List RnixRange) (links : List RnixLink) (es : List Packed) (h : HoldParse text ranges links 0) (utf8 : IsUtf8 text)
-    (short : length text < 2 ^ 32) (is : (tree : Tree) → HoldTree ranges links tree → es ≡ map kept_of (items_of tree)) where
+    (short : length text < 2 ^ 32) (is : (tree : Tree) → BeginWithTree ranges links tree → es ≡ map kept_of (items_of tree)) where
   -- the arrays contain the stored elements of the tree
   pub kept_in_arrays : IsKept h.0 es text
   kept_in_arrays = kept_tree text h.0 h.1.0 es utf8 short h.1.1.1.0.few h.1.1.0 (is h.0 h.1.1.1.0)

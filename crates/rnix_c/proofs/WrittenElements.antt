@@ -1,10 +1,10 @@
 -- The elements of a tree can be read back from the arrays into which they were written.
-use Rattle.std.proofs.Common.{◌≡◌, ℕ, suc, ◌+◌, ◌-◌, ◌<◌, ◌^◌, cond, Bool, true, false, List, [], ◌∷◌, ◌++◌, length, map, take, get_or, Option, Some, None, refl, sym, ap, ◌∙◌, arith}
-use Rattle.std.{specs.Prelude.{IfSome}, proofs.lemmas.{Bool.{ne_eqb}, List.{get_or-map, length-map, map-append, take_more}}}
+use Rattle.std.proofs.Common.{◌≡◌, ℕ, zero, suc, min, ◌+◌, ◌-◌, ◌<◌, ◌^◌, cond, Bool, true, false, List, [], ◌∷◌, ◌++◌, length, map, take, get_or, Option, Some, None, refl, sym, ap, ◌∙◌, subst, arith}
+use Rattle.std.{specs.Prelude.{IfSome}, proofs.lemmas.{Bool.{ne_eqb}, List.{get_or-map, length-append, length-map, length-take, map-append, take_more}}}
 use Rattle.rnix_kinds.{specs.{declared.kinds.SyntaxKind.{SyntaxKind}, SyntaxKind.{discriminant_of}}}
-use Rattle.rnix_green.{specs.{declared.packed.Packed.{Packed}, Packed.{packed}, Kept.{kept_of, parent_or_root}, Tree.{Tree, Item, no_item, items_of, item}}, proofs.ParentLemmas.{parent_is_before}}
+use Rattle.rnix_green.{specs.{declared.packed.Packed.{Packed}, Packed.{packed}, Forest.{element_count}, Kept.{kept_of, parent_or_root}, Tree.{Tree, Item, no_item, items_from, items_of, item}}, proofs.{ParentLemmas.{parent_is_before}, PieceLemmas.{length-items_from}}}
 use Rattle.rnix_c.specs.{declared.compact.{RnixRange.{RnixRange}, RnixLink.{RnixLink}}, CompactElements.{parent_or_none, range_of, link_of}}
-use Rattle.rnix_c.specs.KeptArrays.{HoldTree, kept_parent, kept_size, kept_by}
+use Rattle.rnix_c.specs.KeptArrays.{HoldTree, BeginWithTree, count_by, kept_parent, kept_size, kept_by}
 
 -- no parent has the number that means no parent
 small_parent : (t : Tree) (n : ℕ) → n < length (items_of t) → length (items_of t) < 2 ^ 32 → IfSome (item t n).parent (λ parent. parent < 2 ^ 32 - 1)
@@ -50,3 +50,29 @@ next_kept t ranges links n range link old new no_range no_link h l range_is link
     ∙ ap (λ e. map kept_of (take n (items_of t)) ++ (e ∷ [])) is_kept
     ∙ sym (map-append kept_of (take n (items_of t)) (i ∷ []))
     ∙ ap (map kept_of) (sym (take_more (items_of t) n no_item there))
+
+-- a tree has one element more than those inside its root
+counted : (t : Tree) → suc (element_count t.children) ≡ length (items_of t)
+counted t =
+    let inside = items_from 1 0 (Some 0) t.children in
+    let same : length (inside ++ []) ≡ element_count t.children =
+    omega (arith, length-append inside [], length-items_from 1 0 (Some 0) t.children) in
+    ap suc (sym same)
+
+-- the first of some links says the same as the first of all
+first_count : (n : ℕ) (links : List RnixLink) → 0 < n → count_by (take n links) ≡ count_by links
+first_count zero links l = absurd (omega (arith, l))
+first_count (suc n) [] l = refl
+first_count (suc n) (link ∷ links) l = refl
+
+-- the arrays that begin with the elements of a tree contain them up to the number that the first link says
+pub cut_off : (t : Tree) (ranges : List RnixRange) (links : List RnixLink) (count : ℕ) → BeginWithTree ranges links t
+    → count ≡ min (min (count_by links) (length ranges)) (length links) → HoldTree (take count ranges) (take count links) t
+cut_off t ranges links count h is =
+    let n = length (items_of t) in
+    let all_ranges : length (take n ranges) ≡ n = ap length h.ranges_are ∙ length-map (items_of t) range_of in
+    let all_links : length (take n links) ≡ n = ap length h.links_are ∙ length-map (items_of t) link_of in
+    let some : 0 < n = omega (arith, counted t) in
+    let first : count_by links ≡ n = sym (first_count n links some) ∙ ap count_by h.links_are ∙ counted t in
+    let same : n ≡ count = omega (arith, is, first, all_ranges, all_links, length-take n ranges, length-take n links) in
+    subst (λ number. HoldTree (take number ranges) (take number links) t) same h

@@ -25,7 +25,7 @@ too_long = negsuc 3
 abbrev pub has_errors : ℤ
 has_errors = negsuc 4
 
--- -6: the new text would differ in more than white space, or change if formatted again
+-- -6: the new text would differ in more than its layout, or change if formatted again
 abbrev pub different : ℤ
 different = negsuc 5
 

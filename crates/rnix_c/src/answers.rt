@@ -27,7 +27,7 @@ pub const TOO_LONG: i64 = -4;
 /// The text has errors.
 pub const HAS_ERRORS: i64 = -5;
 
-/// The new text would differ in more than white space, or change if formatted again.
+/// The new text would differ in more than its layout, or change if formatted again.
 pub const DIFFERENT: i64 = -6;
 
 /// An absent offset or number.

@@ -1,4 +1,4 @@
-//! The tree of a text, from the arrays that contain its elements.
+//! The tree of a text, from the arrays that begin with its elements.
 
 ghost use Rattle.std.specs.Prelude.{◌≡◌, ◌<◌, ◌^◌, [], ◌∷◌, ◌++◌, length, map, IfOk, IfErr, OnOk, IsUtf8};
 ghost use Rattle.rnix_kinds.specs.declared.kinds.SyntaxKind.{SyntaxKind};
@@ -11,7 +11,7 @@ ghost use Rattle.rnix_green.specs.Tree.{Tree, items_of, forest_of};
 ghost use Rattle.rnix_grammar.specs.Parsed.{IsParsed};
 ghost use Rattle.rnix_reparse.specs.ParsedText.{IsParsedText};
 ghost use Rattle.rnix_c.specs.Answers.{IsRefused};
-ghost use Rattle.rnix_c.specs.KeptArrays.{HoldTree, HoldParse, kept_parent, kept_size, kept_by};
+ghost use Rattle.rnix_c.specs.KeptArrays.{HoldTree, BeginWithTree, HoldParse, count_by, kept_parent, kept_size, kept_by};
 
 use crate::answers::{NO_MEMORY, checked, parse_of};
 use crate::compact::{NO_PARENT, RnixLink, RnixRange};
@@ -75,7 +75,38 @@ fn elements_of(
     Ok(list)
 }
 
-// Returns the tree of a text without errors, from the arrays that contain its elements.
+// Returns the number of elements by the first link.
+fn element_count(links: &[RnixLink]) -> usize
+    ensures { result ≡ count_by links.now }
+{
+    match links.first() {
+        Some(link) => link.inside as usize + 1,
+        None => 0,
+    }
+}
+
+// Returns the elements that the arrays begin with.
+fn whole<'a>(ranges: &'a [RnixRange], links: &'a [RnixLink]) -> (&'a [RnixRange], &'a [RnixLink])
+    ensures { (tree : Tree) → BeginWithTree ranges.now links.now tree → HoldTree result.0.now result.1.now tree }
+{
+    let count = element_count(links).min(ranges.len()).min(links.len());
+    (&ranges[..count], &links[..count])
+}
+
+// Returns the elements of the tree that the arrays begin with.
+fn kept_elements(
+    alloc: Global,
+    ranges: &[RnixRange],
+    links: &[RnixLink],
+) -> Result<ElementList, AllocError>
+    ensures { IfOk result (λ list. (tree : Tree) → BeginWithTree ranges.now links.now tree → list ≡ map kept_of (items_of tree)) }
+{
+    let (ranges, links) = whole(ranges, links);
+    let list = elements_of(alloc, ranges, links)?;
+    Ok(list)
+}
+
+// Returns the tree of a text without errors, from the arrays that begin with its elements.
 fn tree_of(
     alloc: Global,
     text: &str,
@@ -87,12 +118,12 @@ fn tree_of(
     ensures root { IfOk result (λ green. green.kind ≡ NODE_ROOT) }
     ensures read { IfOk result (λ green. IsParsed (tokens_of text.now) green []) }
 {
-    let list = elements_of(alloc, ranges, links)?;
+    let list = kept_elements(alloc, ranges, links)?;
     let green = list.into_tree(text)?;
     Ok(green)
 }
 
-/// Returns the parse of a text without errors, from the arrays that contain its elements. Nothing is parsed.
+/// Returns the parse of a text without errors, from the arrays that begin with its elements. Nothing is parsed.
 pub fn parse_kept(
     alloc: Global,
     text: &str,

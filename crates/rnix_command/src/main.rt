@@ -14,10 +14,10 @@ Checks, formats and changes Nix files. Each command has its own help: rnix help 
 
     check      report syntax errors, what Nix refuses besides, and probable mistakes
     format     write files in the style of Nixpkgs; also called fmt
-    dead       report names that nothing uses
+    dead       report names that nothing uses; --edit removes them
     names      list the bindings, and what each name refers to
     rename     rename a binding and its uses
-    update     set, add or remove an attribute
+    update     print, set, add or remove an attribute, or an element of a list
     json       print the data of a text as JSON, and JSON as Nix
     page       show a text and its tree as an HTML page
     tree       print the errors and the syntax tree

@@ -17,6 +17,7 @@ mod replacing;
 mod same_tree;
 mod steps;
 
+pub use cut::{Cut, cut_of};
 pub use edited::{Edited, Refusal};
 pub use insert::{insert_after, insert_inside};
 pub use removing::remove;

@@ -38,7 +38,7 @@ const WIDE: &str =
     "bbbbbbbbbbbbbbbbbbbbbbbbbbbbbbbbbbbbbbbbbbbbbbbbbbbbbbbbbbbbbbbbbbbbbbbbbbbbbbbb";
 
 // Comments with white space around them.
-const GAPS: [&str; 50] = [
+const GAPS: [&str; 62] = [
     "/**/",
     "/**/\n",
     "/**/\n\n",
@@ -89,6 +89,18 @@ const GAPS: [&str; 50] = [
     "\n#\n#\n\n",
     "\n#\n\n#\n",
     "\n#\n\n#\n\n",
+    "/*c*/",
+    "/*c*/\n",
+    "/*c*/\n\n",
+    "\n/*c*/",
+    "\n/*c*/\n",
+    "\n\n/*c*/\n\n",
+    "/*c*//* c */\n",
+    "/*c*/\n/*c*/\n",
+    "\n/*c*/#\n",
+    "\n#\n/*c*/\n",
+    "/*c*/\r\n",
+    "\r\n/*c*/\r\n#\r\n",
 ];
 
 // An expression with a long name in place of each `b`.

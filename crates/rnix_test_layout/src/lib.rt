@@ -11,3 +11,5 @@ mod formatted;
 mod nested;
 #[cfg(test)]
 mod settling;
+#[cfg(test)]
+mod tokens;

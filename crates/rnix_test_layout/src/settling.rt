@@ -19,7 +19,7 @@ const TEXTS: [&str; 6] = [
 // Returns the formatted text, or an empty one if there is none.
 fn formatted_text(alloc: Global, text: &str) -> Result<String, AllocError> {
     match formatted(alloc, text)? {
-        Formatting::Formatted(made) => Ok(made),
+        Formatting::Formatted(made) | Formatting::Retokened(made) => Ok(made),
         _ => Ok(String::new(alloc)),
     }
 }

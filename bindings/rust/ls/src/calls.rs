@@ -54,15 +54,15 @@ pub fn loader(function: Expr) -> Option<Loader> {
     }
 }
 
-// The outermost parentheses around a node, or the node.
-fn with_parens(node: &SyntaxNode) -> SyntaxNode {
+/// Returns the outermost parentheses around a node, or the node.
+pub fn with_parens(node: &SyntaxNode) -> SyntaxNode {
     let is_paren = |node: &SyntaxNode| node.kind() == SyntaxKind::NODE_PAREN;
     let parens = node.ancestors().skip(1).take_while(is_paren);
     parens.last().unwrap_or_else(|| node.clone())
 }
 
-// The call of which a node is the function, or the argument; parentheses around it do not count.
-fn call_around(node: &SyntaxNode, is_function: bool) -> Option<Apply> {
+/// Returns the call of which a node is the function, or the argument; parentheses around it do not count.
+pub fn call_around(node: &SyntaxNode, is_function: bool) -> Option<Apply> {
     let outer = with_parens(node);
     let call = Apply::cast(outer.parent()?)?;
     let part = if is_function { call.lambda() } else { call.argument() };

@@ -67,18 +67,30 @@ fn message(body: &[u8]) -> Incoming {
     }
 }
 
+fn bad(reason: &str) -> Incoming {
+    Incoming::Bad(Failure::new(Code::ParseError, reason))
+}
+
 // Reads messages until the input ends.
 fn read_all(input: impl Read, shared: &Shared) {
     let mut input = BufReader::new(input);
+    // Whether the last message was none, so that bytes after it may be the rest of it.
+    let mut was_bad = false;
     loop {
-        match transport::read(&mut input) {
-            Ok(Frame::Body(body)) => shared.add(message(&body), body.len()),
+        let frame = transport::read(&mut input);
+        if matches!(frame, Ok(Frame::Resumed(_))) && !was_bad {
+            shared.add(bad("bytes that belong to no message come before a header"), 0);
+        }
+        let (incoming, bytes) = match frame {
+            Ok(Frame::Body(body) | Frame::Resumed(body)) => (message(&body), body.len()),
             Ok(Frame::BadHeader) => {
                 let reason = "a header has no Content-Length, or one that is no number or too large";
-                shared.add(Incoming::Bad(Failure::new(Code::ParseError, reason)), 0);
+                (bad(reason), 0)
             }
             Ok(Frame::End) | Err(_) => return,
-        }
+        };
+        was_bad = matches!(incoming, Incoming::Bad(_));
+        shared.add(incoming, bytes);
     }
 }
 
@@ -92,10 +104,18 @@ fn cancelled(message: &Incoming) -> Option<Value> {
     }
 }
 
+// Whether a method tells what a text is. Such a message is not left out, whatever comes later, even if it has an id.
+fn tells_text(method: &str) -> bool {
+    matches!(method, "textDocument/didChange" | "textDocument/didOpen")
+}
+
 // Whether a message is the request of an id.
 fn is_request(message: &Incoming, id: &Value) -> bool {
     match message {
-        Incoming::Message(value) => value.get("id") == Some(id) && value.get("method").is_some(),
+        Incoming::Message(value) => {
+            let method = value.get("method").and_then(Value::as_str);
+            value.get("id") == Some(id) && method.is_some_and(|method| !tells_text(method))
+        }
         _ => false,
     }
 }
@@ -118,9 +138,10 @@ fn passing(message: &Incoming, uri: Option<&str>) -> Option<Value> {
     let Incoming::Message(value) = message else {
         return None;
     };
-    let method = value.get("method")?.as_str()?.strip_prefix("textDocument/")?;
+    let method = value.get("method")?.as_str().filter(|method| !tells_text(method))?;
+    let feature = method.strip_prefix("textDocument/")?;
     let own = uri_of(value.get("params")?).ok()?;
-    let is_passing = method != "completion" && uri.map_or(true, |uri| same(uri, own));
+    let is_passing = feature != "completion" && uri.map_or(true, |uri| same(uri, own));
     value.get("id").filter(|_| is_passing).cloned()
 }
 
@@ -251,6 +272,18 @@ mod tests {
     fn completion_is_never_stale() {
         let (names, change) = (about("completion", "\"id\":1,", "a"), about("didChange", "", "a"));
         assert_eq!(kept(&[&names, &change]), "mm");
+    }
+
+    #[test]
+    fn what_tells_a_text_is_kept_even_with_an_id() {
+        for method in ["didOpen", "didChange"] {
+            let (tell, change) = (about(method, "\"id\":1,", "a"), about("didChange", "", "a"));
+            assert_eq!(kept(&[&tell, &change, "{"]), "mmb");
+            assert_eq!(
+                kept(&[&tell, "{\"method\":\"$/cancelRequest\",\"params\":{\"id\":1}}"]),
+                "m"
+            );
+        }
     }
 
     #[test]

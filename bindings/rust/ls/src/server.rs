@@ -341,3 +341,15 @@ pub fn serve(input: impl Read + Send + 'static, output: impl Write) -> u8 {
     };
     server.serve(&mut Queue::new(input)).unwrap_or(1)
 }
+
+#[cfg(test)]
+mod tests {
+    use super::*;
+
+    #[test]
+    fn a_panic_becomes_an_error() {
+        assert_eq!(guarded(|| Ok(1)).ok(), Some(1));
+        let fault = guarded(|| -> Result<(), Failure> { panic!("a fault") });
+        assert_eq!(fault.unwrap_err().code, Code::InternalError);
+    }
+}

@@ -54,7 +54,7 @@ class Client:
     def __enter__(self):
         return self
 
-    def __exit__(self, *_):
+    def __exit__(self, problem=None, *_):
         self.process.stdin.close()
         self.process.stdout.close()
         try:
@@ -62,6 +62,8 @@ class Client:
         except subprocess.TimeoutExpired:
             self.process.kill()
             raise
+        # Another status is that of a crash.
+        assert problem or self.process.returncode in (0, 1), self.process.returncode
 
     def take(self):
         """Waits for bytes from the server, and returns whether there were any. A server that says nothing for long is ended."""

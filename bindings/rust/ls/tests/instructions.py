@@ -1,8 +1,9 @@
-"""Prints how many instructions rnix-ls takes, as valgrind counts them: RNIX_LS=PROGRAM python3 instructions.py [SIZE..]
+"""Prints how many instructions rnix-ls takes, as valgrind counts them, and how long: RNIX_LS=PROGRAM python3 instructions.py [SIZE..]
 
 Of each size in bytes (20,000 and 1,000,000) there are two texts, one in ASCII and one with letters outside. A session starts the server, opens the text
 and parses it. A key press is a change of one letter, the diagnostics, and the edits of the semantic tokens. Other figures are those of one request
-after the diagnostics. They are printed in thousands.
+after the diagnostics. They are printed in thousands, and after each of them stands how many milliseconds processors worked for the server without valgrind:
+the least of some turns.
 """
 
 import glob
@@ -21,6 +22,9 @@ from inputs import SHAPES  # noqa: E402
 # What is written otherwise in the text with letters outside ASCII.
 LETTERS = {"greets": "grüßt 😀", "the flags": "die Schalter — ä", "touch $out": "touch $out/é", "no license": "keine Lizenz 😀"}
 PRESSES = 2
+
+# How often each thing is timed.
+TURNS = 5
 
 
 def packages(size, is_ascii):
@@ -60,7 +64,7 @@ class Counted:
             files = found
             time.sleep(0.4)
 
-    def instructions(self):
+    def spent(self):
         """Returns the instructions since the last call."""
         total = 0
         for name in self.new_files():
@@ -79,90 +83,130 @@ class Counted:
         raise LookupError(function)
 
 
+class Timed:
+    """A server whose processor time is measured whenever it has nothing more to do."""
+
+    def __init__(self):
+        self.client = Client()
+        self.last = 0
+
+    def spent(self):
+        """Returns the milliseconds since the last call."""
+        total = None
+        while total != (total := self.client.processor_time()):
+            time.sleep(0.05)
+        found, self.last = total - self.last, total
+        return 1000 * found
+
+
 def requests(text):
-    """Yields the requests, with their parameters."""
+    """Yields the requests, with their names and parameters."""
     use, bound = {"position": position(text, "stdenv.is")}, {"position": position(text, "x: ")}
-    line = use["position"][0]
+    line, column = use["position"]
     lines = {"range": {"start": place((line, 0)), "end": place((line + 50, 0))}}
-    yield "hover", use
-    yield "completion", use
-    yield "definition", use
-    yield "references", {**use, "context": {"includeDeclaration": True}}
-    yield "documentHighlight", use
-    yield "prepareRename", bound
-    yield "rename", {**bound, "newName": "path"}
-    yield "codeAction", {**lines, "context": {"diagnostics": []}}
-    yield "documentSymbol", {}
-    yield "foldingRange", {}
-    yield "selectionRange", {"positions": [place(use["position"])]}
-    yield "semanticTokens/full", {}
-    yield "semanticTokens/range", lines
-    yield "formatting", {"options": {}}
-    yield "rangeFormatting", {**lines, "options": {}}
+    inherited = place(position(text, "lib stdenv;"))
+    one = {"range": {"start": inherited, "end": inherited}, "context": {"diagnostics": []}}
+    yield "hover", "hover", use
+    # The first one reads the table of what Nix binds.
+    yield "completion, the first", "completion", use
+    yield "completion", "completion", use
+    yield "completion, after a dot", "completion", {"position": (line, column + len("stdenv.is"))}
+    yield "definition", "definition", use
+    yield "references", "references", {**use, "context": {"includeDeclaration": True}}
+    yield "documentHighlight", "documentHighlight", use
+    yield "prepareRename", "prepareRename", bound
+    yield "rename", "rename", {**bound, "newName": "path"}
+    yield "codeAction", "codeAction", {**lines, "context": {"diagnostics": []}}
+    yield "codeAction, at an inherited name", "codeAction", one
+    yield "documentSymbol", "documentSymbol", {}
+    yield "documentLink", "documentLink", {}
+    yield "foldingRange", "foldingRange", {}
+    yield "selectionRange", "selectionRange", {"positions": [place(use["position"])]}
+    yield "semanticTokens/full", "semanticTokens/full", {}
+    yield "semanticTokens/range", "semanticTokens/range", lines
+    yield "diagnostic", "diagnostic", {}
+    yield "formatting", "formatting", {"options": {}}
+    yield "rangeFormatting", "rangeFormatting", {**lines, "options": {}}
 
 
 def pressed(counted, text):
-    """Returns the instructions of a key press in a string."""
+    """Returns the cost of a key press in a string."""
     client = counted.client
     line, column = position(text, '"touch')
     name = client.at("semanticTokens/full")["resultId"]
-    counted.instructions()
+    counted.spent()
     for turn in range(PRESSES):
         client.change(((line, column + 1), (line, column + 1), "abc"[turn % 3]))
         name = client.at("semanticTokens/full/delta", previousResultId=name)["resultId"]
         client.diagnostics()
-    return counted.instructions() // PRESSES
+    return counted.spent() / PRESSES
 
 
 def asked(counted, text, found):
     """Adds the figures of requests."""
-    for method, others in requests(text):
-        counted.client.at(method, **others)
-        found[method] = counted.instructions()
+    for name, method, others in requests(text):
+        answer = counted.client.at(method, **others)
+        assert not (isinstance(answer, dict) and "code" in answer), (name, answer)
+        label, _, rest = name.partition(", ")
+        found[f"`{label}`" + (f", {rest}" if rest else "")] = counted.spent()
+    assert counted.client.ask("workspace/symbol", {"query": "greet"})
+    found["`workspace/symbol`, the first"] = counted.spent()
+    counted.client.ask("workspace/symbol", {"query": "greet"})
+    found["`workspace/symbol`"] = counted.spent()
 
 
 def corrected(counted, text):
-    """Returns the instructions of a quick fix for the first error of a text."""
+    """Returns the cost of a quick fix for the first error of a text."""
     client = counted.client
     client.open(text)
     error, *_ = client.diagnostics()
-    counted.instructions()
+    counted.spent()
     (action,) = client.at("codeAction", range=error["range"], context={"diagnostics": [error]})
     assert action["title"] == "Insert `;`", action
-    return counted.instructions()
+    return counted.spent()
 
 
-def figures(size, is_ascii):
+def figures(counted, text):
     """Returns the figures for a text, by their names."""
-    text, found = packages(size, is_ascii), {}
-    with tempfile.TemporaryDirectory() as room:
-        counted = Counted(room)
-        with counted.client as client:
-            client.open(text)
-            client.diagnostics()
-            found["start, open, diagnostics"] = counted.instructions()
+    found = {}
+    with counted.client as client:
+        client.open(text)
+        client.diagnostics()
+        found["start, open, diagnostics"] = counted.spent()
+        if isinstance(counted, Counted):
             found["a parse"], found["names"] = counted.inclusive("rnix_parse_compact"), counted.inclusive("rnix_analysis")
             found["a session"] = found["start, open, diagnostics"] - found["names"]
-            asked(counted, text, found)
-            found["a key press"] = pressed(counted, text)
-            found["in parses"] = found["a key press"] / found["a parse"]
-            broken = text.replace("= callPackage", "= = callPackage", 1)
-            client.open(broken)
-            client.diagnostics()
-            found["a key press, with an error"] = pressed(counted, broken)
-            found["with an error, in parses"] = found["a key press, with an error"] / found["a parse"]
-            found["a quick fix for an error"] = corrected(counted, text.replace(";\n", "\n", 1))
+        asked(counted, text, found)
+        found["a key press"] = pressed(counted, text)
+        broken = text.replace("= callPackage", "= = callPackage", 1)
+        client.open(broken)
+        client.diagnostics()
+        found["a key press, with an error"] = pressed(counted, broken)
+        found["a quick fix for an error"] = corrected(counted, text.replace(";\n", "\n", 1))
     return found
+
+
+def cells_of(text):
+    """Returns what is printed for a text, by the names of the rows."""
+    with tempfile.TemporaryDirectory() as room:
+        counts = figures(Counted(room), text)
+    turns = [figures(Timed(), text) for _ in range(TURNS)]
+    cells = {}
+    for name, count in counts.items():
+        times = [turn[name] for turn in turns if name in turn]
+        cells[name] = f"{count / 1000:,.0f}" + (f" ({min(times):.2g})" if times else "")
+        if name.startswith("a key press"):
+            cells[f"{name}, in parses"] = f"{count / counts['a parse']:.2f}"
+    return cells
 
 
 def main():
     sizes = list(map(int, sys.argv[1:])) or [20_000, 1_000_000]
-    columns = [(size, is_ascii, figures(size, is_ascii)) for size in sizes for is_ascii in (True, False)]
+    columns = [(size, is_ascii, cells_of(packages(size, is_ascii))) for size in sizes for is_ascii in (True, False)]
     names = [f"{size // 1000} KB, {'ASCII' if is_ascii else 'letters'}" for size, is_ascii, _ in columns]
     print(f"| | {' | '.join(names)} |\n|---|{'---|' * len(names)}")
     for name in columns[0][2]:
-        cells = [found[name] for *_, found in columns]
-        print(f"| {name} | {' | '.join(f'{it:.2f}' if isinstance(it, float) else f'{it / 1000:,.0f}' for it in cells)} |")
+        print(f"| {name} | {' | '.join(cells[name] for *_, cells in columns)} |")
 
 
 if __name__ == "__main__":

@@ -75,12 +75,16 @@ class Actions(unittest.TestCase):
             ("{ |a.b = 1; }", "{ |a = { b = 1; }; }"),
             ("x: { |a.b.c = x; }", "x: { |a = { b.c = x; }; }"),
             ("let |a.b = c: a; in a", "let |a = { b = c: a; }; in a"),
+            ("{ |a.b = 1; a.c.d = 2; }", "{ |a = { b = 1; c.d = 2; }; }"),
+            ("x: {\n  |a.b = x;\n  a.c = [\n    2\n  ];\n}\n", "x: {\n  |a = {\n    b = x;\n    c = [\n    2\n  ];\n  };\n}\n"),
         ]:
             plain = lambda marked: marked.replace("|", "")
             self.assertEqual(self.actions(flat)["Write as `a = { .. }`"], plain(packed))
             titles = self.actions(packed)
             self.assertIn(plain(flat), titles.values())
-        for marked in ["{ |a = rec { b = 1; }; }", "{ |a = { b = 1; c = 2; }; }", "{ |a = { /* d */ b = 1; }; }"]:
+        apart = "{\n  a.b = 1;\n  c = 2;\n  a.|d = 3;\n}\n"
+        self.assertEqual(self.actions(apart)["Write as `a = { .. }`"], "{\n  a = {\n    b = 1;\n    d = 3;\n  };\n  c = 2;\n}\n")
+        for marked in ["{ |a = rec { b = 1; }; }", "{ |a = { b = 1; inherit c; }; }", "{ |a = { /* d */ b = 1; }; }", "x: { |${x} = { b = 1; c = 2; }; }"]:
             self.assertEqual(self.actions(marked, ["refactor"]), {})
 
     def test_strings_get_other_quotes(self):
@@ -93,6 +97,12 @@ class Actions(unittest.TestCase):
             self.assertEqual(self.actions(quoted)["Write the string in `''`"], plain(indented))
             self.assertEqual(self.actions(indented)['Write the string in `"`'], plain(quoted))
         self.assertEqual(self.actions('{ |"a b" = 1; }', ["refactor"]), {})
+
+    def test_names_get_and_lose_quotes(self):
+        self.assertEqual(self.actions('x: { |"a".b = x."a b"; }')["Write `a` without quotes"], 'x: { a.b = x."a b"; }')
+        self.assertEqual(self.actions("x: { |a|.b = x; }")["Write `a` in quotes"], 'x: { "a".b = x; }')
+        for marked in ['x: { |"a b" = x; }', "x: { |a.b = x; }", 'x: { a = |"b"; }']:
+            self.assertFalse([it for it in self.actions(marked) if "quotes" in it])
 
     def test_all_unused_names_are_removed(self):
         title = "Remove all unused names"
@@ -124,7 +134,7 @@ class Actions(unittest.TestCase):
     def test_only_the_kinds_that_are_asked_for_are_offered(self):
         text = "{ lib }: let |a| = { b = missing; }; in 1"
         self.assertEqual(set(self.actions(text, ["source"])), {"Remove all unused names"})
-        self.assertEqual(set(self.actions(text, ["refactor.rewrite"])), {"Write as `a.b = ..`"})
+        self.assertEqual(set(self.actions(text, ["refactor.rewrite"])), {"Write as `a.b = ..`", "Write `a` in quotes"})
         self.assertEqual(set(self.actions(text, ["refactor.inline"])), set())
         self.assertEqual(set(self.actions(text, ["ref"])), set())
 
@@ -132,7 +142,7 @@ class Actions(unittest.TestCase):
         numbers = random.Random(7)
         pieces = [
             "a", "b", "{ a = b; }", "{ a.b = 1; }", "rec { a = { b = a; }; }", "(a: b)", "(let a = b; in a)", "(with a; b)", "{ inherit (a) b a; }",
-            "\"${a} b\"", "''a''", "a.b", "[ a b ]",
+            "\"${a} b\"", "''a''", "a.b", "[ a b ]", "{ a.b = 1; a.c = b; }", "rec { a = { b = 1; c = a; }; }", "{ a.b = 1; c = 2; a.${b} = a; }",
         ]
         tried = 0
         for _ in range(1000):

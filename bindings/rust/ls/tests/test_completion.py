@@ -88,6 +88,11 @@ class Completion(unittest.TestCase):
             ("let a = { \"b c\" = 1; }; in a.|", {"b c"}),
             ("let a = x: { b = 1; }; in a.|", set()),
             ("let a = b; b = a; in a.|", set()),
+            ("let f = a: a.|; in f { b = 1; }", {"b"}),
+            ("let f = { a }: c: a.|; in f { a = { b = 1; }; } 2", {"b"}),
+            ("(a: [ a.| ]) { b = 1; }", {"b"}),
+            ("let c = a.|; a = { b = 1; }; in c", {"b"}),
+            ("rec {\n  c = a.|\n  a = { b = 1; };\n}", {"b"}),
         ]:
             self.assertEqual(set(self.items(text)), wanted, text)
         item = self.items("let a = { b = 1; }; in a.b|")["b"]
@@ -196,6 +201,39 @@ class Completion(unittest.TestCase):
         self.assertEqual(item["detail"], "boolean")
         self.assertEqual(item["documentation"]["value"], "Default: `false`\n\nWhether to enable the daemon.")
         self.assertEqual(self.items("{ networking.| }")["a b"]["textEdit"]["newText"], '"a b"')
+
+    def test_attributes_of_builtins_are_listed(self):
+        for text in ["builtins.|", "builtins.ma|", "x: { y = builtins . | ; }", "[ builtins.|map ]", "a builtins.| b"]:
+            found = self.items(text)
+            self.assertEqual(len(found), 120, text)
+            self.assertEqual(found["map"]["detail"], "map f list")
+            self.assertIn("Apply the function *f*", found["map"]["documentation"]["value"])
+            self.assertNotIn("documentation", found["storeDir"])
+            self.assertEqual(found["warn"]["detail"], "warn e1 e2")
+        self.assertEqual(span(self.items("builtins.ma|")["map"]["textEdit"]), (0, 9, 0, 11))
+        for text in ["let builtins = 1; in builtins.|", "builtins: builtins.|", "x: x.builtins.|", "builtins.map.|", "{ builtins.| }"]:
+            self.assertEqual(self.items(text), {}, text)
+        for text in ["builtins ? |", "{ inherit (builtins) |; }"]:
+            self.assertEqual(len(self.items(text)), 120, text)
+
+    def test_names_that_nix_binds_have_their_arguments(self):
+        found = self.items("ma|")
+        self.assertEqual(found["map"]["detail"], "map f list")
+        self.assertIn("Apply the function *f*", found["map"]["documentation"]["value"])
+        self.assertEqual((found["true"]["detail"], found["derivation"]["detail"]), ("bound by Nix", "bound by Nix"))
+        self.assertNotIn("mapAttrs", found)
+
+    def test_hovering_shows_the_manual_on_what_nix_binds(self):
+        shown = self.hover
+        self.assertTrue(shown("x: |map x").startswith("```nix\nmap f list\n```\n\nBound by Nix\n\nApply the function *f* to each element in the list *list*."))
+        wanted = "```nix\nmapAttrs f attrset\n```\n\nBound by Nix\n\nApply function *f* to every element of *attrset*."
+        self.assertTrue(shown("builtins.map|Attrs").startswith(wanted))
+        self.assertTrue(shown("|builtins.mapAttrs").startswith("```nix\nbuiltins\n```"))
+        for text in ["x: let builtins = x; in builtins.map|Attrs", "x: x.builtins.map|Attrs"]:
+            self.assertIsNone(shown(text))
+        self.assertIn("A parameter", shown("map: |map"))
+        self.assertEqual(shown("builtins.store|Dir"), "```nix\nstoreDir\n```\n\nBound by Nix")
+        self.assertTrue(shown("builtins.w|arn").startswith("```nix\nwarn e1 e2\n```\n\nBound by Nix since version 2.23\n\n"))
 
     def test_hovering_shows_an_option(self):
         wanted = (

@@ -97,6 +97,9 @@ class Definitions(Files):
             ("{ a ? { b = 1; } }: a.|b", ["b"]),
             ("args@{ a, b ? 1 }: args.|b", ["b"]),
             ("let x = { }; in (x.a or { b = 1; }).|b", ["b"]),
+            ("let f = a: a.|b; in f { b = 1; }", ["b"]),
+            ("rec { f = { a, ... }: a.|b; g = f { a.b = 1; }; }", ["b"]),
+            ("let f = x: (y: y.|b); in [ (f 1 { b = 1; }) ((f 2) { b = 2; }) ]", ["b", "b"]),
             ("let a = with x; assert y; (let z = 1; in { b = z; }); in a.|b or 1", ["b"]),
         ]:
             found = self.definition("a.nix", text)

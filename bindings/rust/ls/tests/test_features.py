@@ -4,7 +4,7 @@ import pathlib
 import tempfile
 import unittest
 
-from client import CAPABILITIES, URI, Client, applied, position_of, span
+from client import CAPABILITIES, URI, Client, applied, position_of, span, text_at
 
 TEXT = """\
 # A package.
@@ -223,37 +223,6 @@ class Features(unittest.TestCase):
         self.assertIsNone(self.client.at("hover", find("license")))
         self.assertIsNone(self.client.at("hover", find("A package")))
 
-    def test_hover_shows_the_manual_on_what_nix_binds(self):
-        self.client.change("x: [ (map x) builtins.mapAttrs (let builtins = x; in builtins.mapAttrs) x.builtins.mapAttrs (map: map) builtins.storeDir ]")
-        shown = lambda column: (self.client.at("hover", (0, column)) or {"contents": {"value": None}})["contents"]["value"]
-        self.assertTrue(shown(6).startswith("```nix\nmap f list\n```\n\nBound by Nix\n\nApply the function *f* to each element in the list *list*."))
-        self.assertTrue(shown(24).startswith("```nix\nmapAttrs f attrset\n```\n\nBound by Nix\n\nApply function *f* to every element of *attrset*."))
-        self.assertTrue(shown(14).startswith("```nix\nbuiltins\n```"))
-        for column in 65, 87:
-            self.assertIsNone(shown(column))
-        self.assertIn("A parameter", shown(101))
-        self.assertEqual(shown(118), "```nix\nstoreDir\n```\n\nBound by Nix")
-
-    def test_completion_lists_the_attributes_of_builtins(self):
-        def items(text):
-            at = text.index("|")
-            text = text.replace("|", "")
-            self.client.change(text)
-            return {it["label"]: it for it in self.client.at("completion", position_of(text, at))["items"]}
-
-        for text in ["builtins.|", "builtins.ma|", "x: { y = builtins . | ; }", "[ builtins.|map ]", "a builtins.| b"]:
-            found = items(text)
-            self.assertEqual(len(found), 111, text)
-            self.assertEqual(found["map"]["detail"], "map f list")
-            self.assertIn("Apply the function *f*", found["map"]["documentation"]["value"])
-            self.assertNotIn("documentation", found["storeDir"])
-        self.assertEqual(span(items("builtins.ma|")["map"]["textEdit"]), (0, 9, 0, 11))
-        for text in ["let builtins = 1; in builtins.|", "builtins: builtins.|", "x: x.builtins.|", "builtins.map.|", "{ builtins.| }"]:
-            self.assertEqual(items(text), {}, text)
-        for text in ["builtins ? |", "{ inherit (builtins) |; }"]:
-            self.assertEqual(len(items(text)), 111, text)
-        self.assertIn("Apply the function *f*", items("ma|")["map"]["documentation"]["value"])
-
     def test_paths_lead_to_the_files_that_they_name(self):
         with tempfile.TemporaryDirectory() as room:
             room = pathlib.Path(room).resolve() / "a b"
@@ -274,6 +243,19 @@ class Features(unittest.TestCase):
                 self.assertIsNone(self.client.at("definition", (0, text.index(path) + 2), uri))
         self.client.open("[ ./y.nix ]", "untitled:Untitled-1")
         self.assertEqual(self.client.at("documentLink", uri="untitled:Untitled-1"), [])
+
+    def test_addresses_lead_to_their_pages(self):
+        text = '{\n  a = "https://a.b/ä"; b = "https://a.b/c?d"; c = http://a.b/c; d = "https://${a}";\n  inputs.e.url = "github:NixOS/nixpkgs/24.05";\n}'
+        self.client.open(text)
+        found = {text_at(text, it): it["target"] for it in self.client.at("documentLink")}
+        self.assertEqual(
+            found,
+            {
+                "https://a.b/c?d": "https://a.b/c?d",
+                "http://a.b/c": "http://a.b/c",
+                "github:NixOS/nixpkgs/24.05": "https://github.com/NixOS/nixpkgs",
+            },
+        )
 
     def test_completion_lists_the_names_in_scope(self):
         def labels(text):

@@ -6,6 +6,7 @@ import re
 import time
 import unittest
 
+import hostile_random
 from client import URI, Client, anonymous, change_of, frame, is_bounded, place
 
 METHODS = [
@@ -162,16 +163,24 @@ class Hostile(unittest.TestCase):
         ]:
             self.assertEqual(self.lost(message), wanted, message)
 
+    def test_edits_of_several_documents_are_those_of_their_texts(self):
+        broken, answered, refused = hostile_random.Driver(1).run(1000)
+        print(f"{broken} broken messages: {answered} answers and {refused} refusals")
+        self.assertGreater(min(broken, answered, refused), 50)
+
     def test_requests_before_a_loss_are_not_answered(self):
-        self.client.open("{a=1;}")
-        for last in (b"{", frame({"jsonrpc": "2.0", "method": "textDocument/didChange", "params": {"textDocument": {"uri": URI}, "x": "Q"}}).replace(b"Q", b"\xe9")):
+        def tell(method, **params):
+            return {"jsonrpc": "2.0", "method": f"textDocument/{method}", "params": params}
+
+        document = {"uri": URI}
+        slow = {"uri": "file:///slow.nix", "text": packages(2_000_000)}
+        unreadable = frame(tell("didChange", textDocument=document, x="Q")).replace(b"Q", b"\xe9")
+        for last in (frame(b"{"), unreadable):
             self.client.open("{a=1;}")
             number = self.client.count = self.client.count + 1
-            options = {"textDocument": {"uri": URI}, "options": {"tabSize": 2, "insertSpaces": True}}
-            request = frame({"jsonrpc": "2.0", "id": number, "method": "textDocument/formatting", "params": options})
-            slow = frame({"jsonrpc": "2.0", "method": "textDocument/didOpen", "params": {"textDocument": {"uri": "file:///slow.nix", "text": packages(2_000_000)}}})
-            hover = frame({"jsonrpc": "2.0", "id": -1, "method": "textDocument/hover", "params": {"textDocument": {"uri": "file:///slow.nix"}, "position": place((0, 0))}})
-            self.client.write(slow + hover + request + (last if last.startswith(b"Content") else frame(last)))
+            request = {**tell("formatting", textDocument=document, options={"tabSize": 2, "insertSpaces": True}), "id": number}
+            hover = {**tell("hover", textDocument={"uri": slow["uri"]}, position=place((0, 0))), "id": -1}
+            self.client.write(frame(tell("didOpen", textDocument=slow)) + frame(hover) + frame(request) + last)
             answers = [self.client.response() for _ in range(3)]
             (found,) = [it for it in answers if it["id"] == number]
             self.assertEqual(found["error"]["code"], -32801)

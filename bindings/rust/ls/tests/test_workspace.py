@@ -228,11 +228,29 @@ class Index(Files):
         print(f"memory after 20 and 1,200 changes of files: {sizes[0] // 1000} and {sizes[-1] // 1000} KB")
         self.assertLess(sizes[-1] - sizes[5], 1_000_000)
 
+    def test_callers_are_found_through_links_as_they_are_now(self):
+        self.write("a.nix", "import ./t.nix { x = 1; }")
+        self.write("f.nix", "{ x }: 2")
+        target, caller, own = self.root / "t.nix", [("a.nix", "x")], lambda name: [(name, "x")]
+        target.symlink_to("f.nix")
+        self.start(WATCHING)
+        self.wait_until(lambda: self.definition("f.nix", "{ |x }: 2"), caller)
+        target.unlink()
+        self.write("t.nix", "{ x }: x")
+        self.tell_changes(("t.nix", CHANGED))
+        self.wait_until(lambda: self.definition("t.nix", "{ |x }: x"), caller)
+        self.wait_until(lambda: self.definition("f.nix", "{ |x }: 2"), own("f.nix"))
+        self.client.tell("textDocument/didClose", {"textDocument": {"uri": self.uri("t.nix")}})
+        target.unlink()
+        target.symlink_to("f.nix")
+        self.tell_changes(("t.nix", CHANGED))
+        self.wait_until(lambda: self.definition("f.nix", "{ |x }: 2"), caller)
+
     def test_random_steps_in_a_workspace_give_what_a_new_server_says(self):
         for seed in (1, 2):
-            asked, found = workspace_random.Driver(seed).run(400)
+            asked, found, edits = workspace_random.Driver(seed).run(400)
             self.assertGreater(asked, 100)
-            print(f"random steps: {asked} requests, {found} places in other files")
+            print(f"random steps: {asked} requests, {found} places in other files, {edits} edits")
 
 
 if __name__ == "__main__":

@@ -1,7 +1,8 @@
 """Random requests, edits and changes of files in a workspace of 50 files: RNIX_LS=PROGRAM python3 workspace_random.py [STEPS [SEED..]]
 
-After each step all ranges of the answers must be ranges of their texts, and have the name that was asked for. At the end of each round, the diagnostics of
-the open documents must be those of a new server that opens the same texts, and the symbols and the callers those of a new server for the same files.
+After each step all ranges of the answers must be ranges of their texts, and have the name that was asked for, and edits must leave no more errors. At the end
+of each round, the diagnostics of the open documents must be those of a new server that opens the same texts, and the symbols and the callers those of a new
+server for the same files.
 """
 
 import os
@@ -13,12 +14,19 @@ import sys
 import tempfile
 import time
 
-from client import Client, place, position_of, text_at
+from client import Client, applied, place, position_of, span, text_at
 from files import PATIENCE, WATCHING
 
 FILES = 50
 NAMES = ["a", "b", "c", "lib", "x1", "long-name"]
-METHODS = ["definition", "references", "hover", "documentHighlight", "documentLink", "documentSymbol", "completion", "prepareRename", "foldingRange"]
+METHODS = [
+    "codeAction", "completion", "definition", "documentHighlight", "documentLink", "documentSymbol", "foldingRange", "formatting", "hover", "prepareRename",
+    "rangeFormatting", "references", "rename", "selectionRange", "semanticTokens/full",
+]
+
+# A document for what an edit leaves, and the code of the error of a request that is refused, such as a renaming.
+AFTER = "untitled:after"
+REFUSED = -32803
 
 # How many steps a round has.
 ROUND = 500
@@ -89,7 +97,7 @@ class Driver:
         for number in range(FILES):
             self.write(self.path(number))
         self.client = self.server()
-        self.asked = self.found = 0
+        self.asked = self.found = self.edits = 0
 
     def server(self):
         """Starts a server for the files."""
@@ -174,29 +182,94 @@ class Driver:
         return found
 
     def ask_some(self):
-        """Asks about a document, and checks the ranges of the answer."""
+        """Asks about a document, and checks the answer."""
         if not self.open:
             return
         uri = self.numbers.choice(sorted(self.open))
         text = self.open[uri]
         words = [it.start() for it in re.finditer(r"[\w-]+|[./<]+", text)]
         offset = self.numbers.choice(words) if words and self.numbers.random() < 0.9 else self.numbers.randrange(len(text) + 1)
+        end = self.numbers.choice([offset, self.numbers.randrange(offset, len(text) + 1)])
         method = self.numbers.choice(METHODS + ["definition"] * 8)
-        answer = self.client.at(method, position_of(text, offset), uri, context={"includeDeclaration": True})
+        others = {
+            "context": {"includeDeclaration": True, "diagnostics": []},
+            "range": {"start": place(position_of(text, offset)), "end": place(position_of(text, end))},
+            "positions": [place(position_of(text, offset))],
+            "newName": self.numbers.choice([*NAMES, "z"]),
+            "options": {"tabSize": 2, "insertSpaces": True},
+        }
+        answer = self.client.at(method, position_of(text, offset), uri, **others)
         self.asked += 1
-        if method == "definition" and answer:
-            word = re.match(r"[a-z0-9_-]*", text[offset:])[0]
-            for location in answer:
-                found = self.check_location(location)
-                self.found += location["uri"] != uri
-                assert offset not in words or word not in NAMES or found == word, (uri, text, offset, word, location, found)
+        if isinstance(answer, dict) and "code" in answer:
+            assert answer["code"] == REFUSED and method in ("prepareRename", "rename"), (method, answer)
+            return
+        self.check_ranges(answer, text)
+        if method == "definition":
+            self.check_definition(answer or [], uri, text, offset, words)
         elif method == "references":
             for location in answer:
                 self.check_location(location)
         elif method == "documentLink":
             for link in answer:
-                assert text_at(text, link)[0] in "./<"
+                assert set(text_at(text, link)) & set("/<"), (text, link)
                 assert pathlib.Path(link["target"].removeprefix("file://")).exists()
+        elif method in ("formatting", "rangeFormatting"):
+            after = applied(text, answer)
+            assert "".join(after.split()) == "".join(text.split()), (text, answer)
+            self.check_edits(text, answer)
+        elif method == "rename":
+            self.check_edits(text, answer["documentChanges"][0]["edits"])
+        elif method == "codeAction":
+            for action in answer:
+                self.check_edits(text, action["edit"]["documentChanges"][0]["edits"], action["kind"] == "quickfix")
+        elif method == "foldingRange":
+            lines = text.count("\n")
+            assert all(0 <= it["startLine"] < it["endLine"] <= lines for it in answer), (text, answer)
+        elif method == "semanticTokens/full":
+            self.check_tokens(answer["data"], text)
+
+    def check_definition(self, answer, uri, text, offset, words):
+        """The places of a definition must have the name that was asked for."""
+        word = re.match(r"[a-z0-9_-]*", text[offset:])[0]
+        for location in answer:
+            found = self.check_location(location)
+            self.found += location["uri"] != uri
+            assert offset not in words or word not in NAMES or found == word, (uri, text, offset, word, location, found)
+
+    def check_ranges(self, thing, text):
+        """All ranges in an answer that are not those of another file must be in the text."""
+        if isinstance(thing, list):
+            for part in thing:
+                self.check_ranges(part, text)
+        elif isinstance(thing, dict) and "uri" not in thing:
+            if "start" in thing:
+                assert text_at(text, thing) is not None, (text, thing)
+            for part in thing.values():
+                self.check_ranges(part, text)
+
+    def check_tokens(self, numbers, text):
+        """Semantic tokens must be in the text, one after the other."""
+        line = column = last = 0
+        for lines, columns, length, *_ in zip(*[iter(numbers)] * 5):
+            line, column, last = line + lines, columns + (0 if lines else column), 0 if lines else last
+            assert column >= last and length > 0, (text, numbers)
+            last = column + length
+            assert text_at(text, {"start": place((line, column)), "end": place((line, last))}) is not None, (text, line, column, length)
+
+    def errors_of(self, text):
+        """Returns how many syntax errors a text has."""
+        self.client.open(text, AFTER)
+        found = self.client.at("diagnostic", uri=AFTER)["items"]
+        self.client.tell("textDocument/didClose", {"textDocument": {"uri": AFTER}})
+        return sum(it["code"] == "syntax-error" for it in found)
+
+    def check_edits(self, text, edits, is_fix=False):
+        """Edits must not overlap, and must leave a text with no more errors than before. The fix of one error may show others that it hid."""
+        places = sorted(span(it) for it in edits)
+        assert all(one[2:] <= other[:2] for one, other in zip(places, places[1:])), (text, edits)
+        self.edits += 1
+        before, after = self.errors_of(text), self.errors_of(applied(text, edits))
+        assert after <= before or (is_fix and before), (text, edits)
 
     def ask_symbols(self):
         """Asks for symbols, which must be in their texts."""
@@ -254,20 +327,20 @@ class Driver:
             assert self.said[uri]["diagnostics"] == said[uri]["diagnostics"], uri
 
     def run(self, steps):
-        """Does so many steps, and returns how many requests there were, and how many answers in other files."""
+        """Does so many steps, and returns how many requests there were, how many places in other files they found, and how many edits."""
         for number in range(steps):
             self.step()
             if number % ROUND == ROUND - 1 or number == steps - 1:
                 self.check_all()
         self.client.__exit__()
         shutil.rmtree(self.room)
-        return self.asked, self.found
+        return self.asked, self.found, self.edits
 
 
 if __name__ == "__main__":
     steps_ = int(sys.argv[1]) if len(sys.argv) > 1 else 10_000
     for seed_ in [int(it) for it in sys.argv[2:]] or [1, 2, 3]:
         begin = time.perf_counter()
-        asked_, found_ = Driver(seed_).run(steps_)
+        asked_, found_, edits_ = Driver(seed_).run(steps_)
         took = time.perf_counter() - begin
-        print(f"seed {seed_}: {steps_} steps, {asked_} requests about documents, {found_} places in other files, {took:.0f} s", flush=True)
+        print(f"seed {seed_}: {steps_} steps, {asked_} requests about documents, {found_} places in other files, {edits_} edits, {took:.0f} s", flush=True)

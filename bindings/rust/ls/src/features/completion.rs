@@ -11,7 +11,7 @@ use crate::json::{array, object, object_of, Value};
 use crate::protocol::{Failure, Outcome};
 use crate::request::Request;
 use place::{place_at, Place};
-use rnix::{SyntaxNode, TextRange};
+use rnix::{SyntaxNode, TextRange, TextSize};
 
 /// An answer has this many names at most.
 const MOST: usize = 1000;
@@ -78,14 +78,33 @@ fn items_of(request: &Request, place: &Place) -> Vec<Item> {
     }
 }
 
+// What may come after a dot in a text with errors, once the name after it is typed: without one, what follows the dot is read in another way.
+fn finished(request: &Request, place: &Place, at: TextSize) -> Option<Vec<Item>> {
+    if !matches!(place, Place::Attribute(..)) || !request.analysis.has_errors() {
+        return None;
+    }
+    let document = request.document.with_name(at.into(), request.sources.encoding())?;
+    let analysis = document.analysis().ok()?;
+    let request = Request {
+        document: &document,
+        analysis,
+        ..*request
+    };
+    let (place, _) = place_at(analysis, at + TextSize::new(1))?;
+    Some(items_of(&request, &place)).filter(|items| !items.is_empty())
+}
+
 // What may come at the position, and the range of what has been typed of it.
 fn found(request: &Request) -> Result<Option<(Vec<Item>, TextRange)>, Failure> {
     let offset = request.offset()?;
     if let Some(files) = paths::items(request, offset) {
         return Ok(Some(files));
     }
-    let place = place_at(request.analysis, offset);
-    Ok(place.map(|(place, word)| (items_of(request, &place), word)))
+    let items = |(place, word): (Place, TextRange)| {
+        let finished = word.is_empty().then(|| finished(request, &place, offset)).flatten();
+        (finished.unwrap_or_else(|| items_of(request, &place)), word)
+    };
+    Ok(place_at(request.analysis, offset).map(items))
 }
 
 fn shown(request: &Request, word: TextRange, item: Item) -> Value {

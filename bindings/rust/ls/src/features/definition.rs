@@ -163,7 +163,7 @@ impl<'a, 'r> Search<'a, 'r> {
     // The place in a file to which a path leads: its expression if the file is imported, the parameters of its function if it is a package, and otherwise
     // the start.
     fn target(&self, path: &SyntaxNode) -> Option<Value> {
-        let uri = links::target(self.request, path)?;
+        let uri = links::target_of(self.request, path)?;
         let start = Value::Range(Default::default(), Default::default());
         let place = load_of(path).and_then(|(loader, _)| {
             let file = self.values.file(&self.part(path))?;

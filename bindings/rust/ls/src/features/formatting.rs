@@ -1,7 +1,8 @@
 //! Formatting in the style of Nixpkgs, or by a command that is set.
 //!
-//! The new text has the same tokens, except that strings in `''` may have other indentation, and interpolations other white space. So each edit replaces the
-//! white space between two neighbouring tokens, or a string as a whole: its value would change if only some of its lines moved.
+//! The new text has the same tokens, except that strings in `''` may have other indentation, interpolations other white space, patterns other commas, and
+//! comments other marks. So each edit replaces the white space and the comma between two neighbouring tokens, or a comment or a string as a whole: the value of
+//! a string would change if only some of its lines moved.
 
 use crate::edits::{difference, Edit};
 use crate::process::filtered;
@@ -14,10 +15,15 @@ use std::time::Duration;
 /// A command that formats may take this long.
 const LIMIT: Duration = Duration::from_secs(10);
 
-/// A token other than white space, or a whole string, with its place and the white space before it.
+/// A token other than white space and commas, or a whole string, with its place and the white space and the comma before it.
 struct Piece {
     space: TextRange,
     place: TextRange,
+}
+
+// Whether tokens of a kind are white space or commas.
+fn is_between(kind: SyntaxKind) -> bool {
+    kind == SyntaxKind::TOKEN_WHITESPACE || kind == SyntaxKind::TOKEN_COMMA
 }
 
 // The pieces of a text. The last one is empty, and comes after the white space at the end of the text.
@@ -28,10 +34,10 @@ fn pieces(text: &str) -> Result<Vec<Piece>, Refused> {
         let end = start + token.len();
         match all.last_mut() {
             Some(string) if depth > 0 => string.place = TextRange::new(string.place.start(), size(end)),
-            _ if kind == SyntaxKind::TOKEN_WHITESPACE => {}
+            _ if is_between(kind) => {}
             _ => all.push(piece(space, start, end)),
         }
-        if depth > 0 || kind != SyntaxKind::TOKEN_WHITESPACE {
+        if depth > 0 || !is_between(kind) {
             space = end;
         }
         match kind {
@@ -57,10 +63,20 @@ fn is_string(piece: &str) -> bool {
     piece.starts_with("''") || piece.starts_with('"')
 }
 
-// The edits that replace the white space and the strings of one text by those of another one, if their other tokens are the same.
+// Whether a piece is a comment.
+fn is_comment(piece: &str) -> bool {
+    piece.starts_with('#') || piece.starts_with("/*")
+}
+
+// Whether a piece may replace another one: both are strings, or both are comments.
+fn may_replace(old: &str, new: &str) -> bool {
+    (is_string(old) && is_string(new)) || (is_comment(old) && is_comment(new))
+}
+
+// The edits that replace the white space, the commas, the comments and the strings of one text by those of another one, if their other tokens are the same.
 fn piece_edits(old: &str, new: &str) -> Result<Option<Vec<Edit>>, Refused> {
     let (olds, news) = (pieces(old)?, pieces(new)?);
-    let are_same = |(old, new): (&str, &str)| old == new || (is_string(old) && is_string(new));
+    let are_same = |(old, new): (&str, &str)| old == new || may_replace(old, new);
     let texts = |(a, b): (&Piece, &Piece)| are_same((&old[a.place], &new[b.place]));
     if olds.len() != news.len() || !olds.iter().zip(&news).all(texts) {
         return Ok(None);
@@ -70,7 +86,7 @@ fn piece_edits(old: &str, new: &str) -> Result<Option<Vec<Edit>>, Refused> {
     Ok(Some(olds.iter().zip(&news).flat_map(both).filter(is_change).collect()))
 }
 
-// The edits that format a text: all of it, if edits of white space and strings do not suffice. A text with errors has none.
+// The edits that format a text: all of it, if such edits do not suffice. A text with errors has none.
 fn edits(text: &str) -> Result<Vec<Edit>, Failure> {
     let fault = |refused: Refused| Failure::new(Code::InternalError, refused.to_string());
     let new = match formatted(text) {
@@ -94,8 +110,8 @@ fn edits_by(command: &[String], text: &str) -> Result<Vec<Edit>, Failure> {
     Ok(difference(text, &new).into_iter().collect())
 }
 
-/// Returns the response to `textDocument/formatting`: edits of white space, and of strings. A text with errors stays as it is. A command that is set
-/// formats in place of that.
+/// Returns the response to `textDocument/formatting`: edits of white space, commas, comments and strings. A text with errors stays as it is. A command that is
+/// set formats in place of that.
 ///
 /// # Errors
 /// Memory runs out, or the command fails.
@@ -138,6 +154,7 @@ mod tests {
             "x:''\n  a\n''",
             "{a=''\nb ${ c }\nd\n'' ;}",
             "[ \"${ a }\" ./${ b }/c  ]",
+            "{ a # b\n, c }: /* d */\n  a",
         ] {
             let mut changed = Edits::new(text);
             for (place, new) in edits(text).unwrap() {
@@ -161,6 +178,14 @@ mod tests {
         let text = "{\n  a = ''\n  ${b}\n  '';\n}\n";
         let wanted = (TextRange::new(size(8), size(22)), "''\n    ${b}\n  ''".to_owned());
         assert_eq!(edits(text).unwrap(), [wanted]);
+    }
+
+    #[test]
+    fn a_comma_and_a_comment_are_edited_alone() {
+        let text = "{\n  a,\n  b\n}:\n/* c */\na\n";
+        let comma = (TextRange::new(size(10), size(11)), ",\n".to_owned());
+        let comment = (TextRange::new(size(14), size(21)), "# c".to_owned());
+        assert_eq!(edits(text).unwrap(), [comma, comment]);
     }
 
     #[test]

@@ -120,7 +120,7 @@ fn signature(builtin: &Builtin) -> String {
 fn of_builtin(builtin: &Builtin, range: TextRange) -> Shown {
     Shown {
         code: signature(builtin),
-        place: "Bound by Nix".to_owned(),
+        place: builtin.place.clone(),
         text: builtin.text.clone(),
         range,
     }

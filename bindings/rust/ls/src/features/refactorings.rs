@@ -5,6 +5,7 @@ mod from_json;
 mod inherits;
 pub mod parameters;
 mod paths;
+mod quotes;
 mod strings;
 mod unused_names;
 
@@ -28,7 +29,7 @@ const REMOVE: &str = "source.removeUnused";
 type Maker = fn(&Selection) -> Option<Fix>;
 
 /// The actions with their kinds.
-const MAKERS: [(&str, Maker); 10] = [
+const MAKERS: [(&str, Maker); 11] = [
     (FIX, parameters::added),
     (REWRITE, inherits::inherited),
     (REWRITE, inherits::separate),
@@ -37,6 +38,7 @@ const MAKERS: [(&str, Maker); 10] = [
     (REWRITE, paths::packed),
     (REWRITE, strings::rewritten),
     (REWRITE, from_json::converted),
+    (REWRITE, quotes::changed),
     (EXTRACT, extract::extracted),
     (REMOVE, unused_names::removed),
 ];

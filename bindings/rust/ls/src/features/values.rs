@@ -13,6 +13,7 @@ use rnix::{Root, SyntaxKind, SyntaxNode};
 use std::cell::Cell;
 
 mod members;
+mod passed;
 
 /// For one answer, at most this many expressions are looked at: it ends also where an expression needs itself.
 const MOST_STEPS: usize = 500;
@@ -31,8 +32,8 @@ pub enum Meaning<'a> {
     Inherited(Part<'a>),
     /// The set of the arguments that a function takes by name, by its pattern.
     Arguments(Part<'a>),
-    /// What an argument is if it is not passed, by its entry in the pattern.
-    Default(Part<'a>),
+    /// What an argument is, by its entry in the pattern or its name: what calls in the file pass, and the default.
+    Argument(Part<'a>),
 }
 
 /// An attribute: its name in an entry, and what it is.
@@ -102,9 +103,14 @@ impl<'a, 's> Values<'a, 's> {
 
     // Looks at an entry, if it may.
     fn has_entry(&self) -> bool {
+        self.has_entries(1)
+    }
+
+    // Looks at so many entries, if it may.
+    fn has_entries(&self, count: usize) -> bool {
         let left = self.entries.get();
-        self.entries.set(left.saturating_sub(1));
-        left > 0
+        self.entries.set(left.saturating_sub(count));
+        left >= count
     }
 
     /// Returns the expression of the file that a call loads.
@@ -138,7 +144,7 @@ impl<'a, 's> Values<'a, 's> {
                 let named = attributes.find(|attribute| is_named(&attribute.name.node, name));
                 named.into_iter().collect()
             }
-            Meaning::Inherited(_) | Meaning::Default(_) => self.select_each(self.next(meaning), name),
+            Meaning::Inherited(_) | Meaning::Argument(_) => self.select_each(self.next(meaning), name),
         }
     }
 
@@ -215,7 +221,7 @@ impl<'a, 's> Values<'a, 's> {
         let argument = |entry: PatEntry| {
             Some(Attribute {
                 name: pattern.source.part(entry.ident()?.syntax().clone()),
-                meaning: Meaning::Default(pattern.source.part(entry.syntax().clone())),
+                meaning: Meaning::Argument(pattern.source.part(entry.syntax().clone())),
             })
         };
         entries.filter_map(argument).collect()
@@ -229,10 +235,11 @@ impl<'a, 's> Values<'a, 's> {
                 expr.map_or_else(Vec::new, |expr| self.inside(&part.source, expr))
             }
             Meaning::Inherited(part) => self.inherited(part),
-            Meaning::Default(part) => {
+            Meaning::Argument(part) => {
                 let default = PatEntry::cast(part.node.clone()).and_then(|entry| entry.default());
                 let default = default.map(|default| part.source.part(default.syntax().clone()));
-                default.into_iter().map(Meaning::Expr).collect()
+                let passed = self.passed(part).into_iter();
+                passed.chain(default.map(Meaning::Expr)).collect()
             }
             Meaning::Rest(..) | Meaning::Arguments(_) => Vec::new(),
         }
@@ -310,7 +317,7 @@ impl<'a, 's> Values<'a, 's> {
         from.map_or_else(Vec::new, |from| self.select(&from, &name_text(&name.node)))
     }
 
-    // What a name refers to in its scopes. Of parameters only defaults are known.
+    // What a name refers to in its scopes.
     fn referred(&self, name: &Part<'a>) -> Vec<Meaning<'a>> {
         let Some(names) = name.source.analysis().map(|analysis| analysis.names()) else {
             return Vec::new();
@@ -363,13 +370,14 @@ fn choices<'a>(source: &Source<'a>, choice: &IfElse) -> Vec<Meaning<'a>> {
     parts.map(Meaning::Expr).collect()
 }
 
-// What a name is bound to by its entry, unless it is a parameter without a pattern.
+// What a name is bound to by its entry.
 fn bound<'a>(name: &Part<'a>) -> Option<Meaning<'a>> {
     let parent = name.node.parent()?;
     match parent.kind() {
         SyntaxKind::NODE_ATTRPATH => after(&name.source, &AttrpathValue::cast(parent.parent()?)?, 1),
         SyntaxKind::NODE_INHERIT => Some(Meaning::Inherited(name.clone())),
-        SyntaxKind::NODE_PAT_ENTRY => Some(Meaning::Default(name.source.part(parent))),
+        SyntaxKind::NODE_PAT_ENTRY => Some(Meaning::Argument(name.source.part(parent))),
+        SyntaxKind::NODE_IDENT_PARAM => Some(Meaning::Argument(name.clone())),
         SyntaxKind::NODE_PAT_BIND => Some(Meaning::Arguments(name.source.part(parent.parent()?))),
         _ => None,
     }

@@ -66,6 +66,17 @@ impl Index {
         file.map(|file| &file.summary)
     }
 
+    /// Returns the paths that are called and are not those of files of the index, or of folders for which one of these stands.
+    pub fn other_targets(&self) -> impl Iterator<Item = &Path> {
+        let targets = self.callers.keys().map(PathBuf::as_path);
+        targets.filter(|path| !self.is_called(path))
+    }
+
+    /// Returns whether a path is that of a file of the index, or of a folder for which one of these stands.
+    pub fn is_called(&self, path: &Path) -> bool {
+        self.contains(path) || self.contains(&path.join("default.nix"))
+    }
+
     /// Returns the files that call a file or a folder.
     pub fn callers(&self, target: &Path) -> impl Iterator<Item = &Path> {
         let callers = self.callers.get(target).into_iter().flatten();

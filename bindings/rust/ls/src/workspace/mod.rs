@@ -25,6 +25,9 @@ use std::rc::Rc;
 use summary::Summary;
 use walk::{would_find, Walk};
 
+/// For one answer, at most this many paths are looked at on the disk that may be links to a file.
+const MOST_LINKS: usize = 1000;
+
 /// A folder of the workspace.
 #[derive(Clone, Debug, PartialEq, Eq)]
 struct Folder {
@@ -153,6 +156,7 @@ impl Workspace {
     pub fn step(&mut self, documents: &Documents, encoding: Encoding) -> bool {
         self.found.extend(self.stale.take());
         if let Some(path) = self.changed.pop_front() {
+            self.forget_link(&path);
             self.follow(&real(&path), documents, encoding);
         } else if let Some(path) = self.found.pop_front() {
             self.look_at(path, documents, encoding);
@@ -160,6 +164,14 @@ impl Workspace {
             return self.walk();
         }
         true
+    }
+
+    // Forgets the files at a path that is a link now, and no longer what it was.
+    fn forget_link(&mut self, path: &Path) {
+        let is_link = fs::symlink_metadata(path).is_ok_and(|about| about.is_symlink());
+        if let (true, Some(folder), Some(name)) = (is_link, path.parent(), path.file_name()) {
+            self.index.remove_below(&real(folder).join(name));
+        }
     }
 
     // Follows a change at a path. What is left out may be other files than before, and a folder may have new ones.
@@ -241,13 +253,29 @@ impl Workspace {
 
     /// Returns the places that pass an argument to the function of a file, by its path without links.
     pub fn passed(&self, sources: &Sources, file: &Path, name: &str) -> Vec<Value> {
-        let targets = targets_of(file);
+        let mut targets = targets_of(file);
+        let links = self.links_to(&targets, sources.documents());
+        targets.extend(links.iter().map(PathBuf::as_path));
         let callers = self.callers(&targets, sources);
         let places = callers.iter().flat_map(|(uri, summary)| {
             let spans = summary.passed(&targets, name);
             spans.map(move |span| object([("uri", uri.as_str().into()), ("range", span.value())]))
         });
         places.collect()
+    }
+
+    // The other paths by which files call one of some files or folders: through links, as these are now.
+    fn links_to(&self, targets: &[&Path], documents: &Documents) -> Vec<PathBuf> {
+        let summaries = documents.known().map(|document| Summary::of(document, &self.search));
+        let open = summaries.flat_map(|summary| summary.calls.iter().map(|call| call.target.as_path()));
+        let open = open.filter(|path| !self.index.is_called(path));
+        let others: BTreeSet<&Path> = self.index.other_targets().chain(open).collect();
+        let links = others
+            .into_iter()
+            .filter(|path| !targets.contains(path))
+            .take(MOST_LINKS);
+        let links = links.filter(|path| targets.contains(&real(path).as_path()));
+        links.map(Path::to_owned).collect()
     }
 
     // The files that may call one of some files or folders, as they are now: open ones, and closed ones that were last known to do so.

@@ -5,7 +5,7 @@ use crate::calls::{arguments_of, load_of};
 use crate::documents::Document;
 use crate::features::symbols::{kind_of, shown};
 use crate::json::Value;
-use crate::paths::{is_path, named, real, SearchPath};
+use crate::paths::{is_path, named, SearchPath};
 use crate::text::{Position, Text};
 use rnix::ast::{AttrpathValue, BinOpKind, Entry, Expr, HasEntry, LetIn};
 use rnix::syntax::ast::AstNode as _;
@@ -34,7 +34,7 @@ pub struct Symbol {
 /// A call of the function of another file.
 #[derive(Debug)]
 pub struct Call {
-    /// The file or the folder, by its path without links.
+    /// The file or the folder, by the path that the call names. It may lead through links, which may change.
     pub target: PathBuf,
     /// The names of the arguments that are written out, and where they are.
     pub arguments: Box<[(Box<str>, Span)]>,
@@ -134,10 +134,7 @@ fn call_at(path: &SyntaxNode, text: &Text, folder: &Path, search: &SearchPath) -
     let arguments: Box<[_]> = arguments_of(&load).into_iter().map(argument).collect();
     let is_some = !arguments.is_empty();
     let target = is_some.then(|| named(path, folder, search)).flatten()?;
-    Some(Call {
-        target: real(&target),
-        arguments,
-    })
+    Some(Call { target, arguments })
 }
 
 impl Summary {

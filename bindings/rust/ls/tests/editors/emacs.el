@@ -1,5 +1,5 @@
-;; Drives rnix-ls from Emacs with eglot: emacs --batch -f package-initialize -l init.el -l emacs.el, beside a copy of example.nix, with an init.el
-;; that names rnix-ls.
+;; Drives rnix-ls from Emacs with eglot: emacs --batch -f package-initialize -l init.el -l emacs.el, beside copies of example.nix and packages.nix, with an
+;; init.el that names rnix-ls.
 (setq eglot-sync-connect 20 eglot-confirm-server-initiated-edits nil make-backup-files nil create-lockfiles nil)
 
 (defun check (wanted found what)
@@ -36,6 +36,36 @@
   (changed)
   (jsonrpc-request (eglot--current-server-or-lose) method (append (eglot--TextDocumentPositionParams) params)))
 
+(defun act (title kind)
+  "Apply the first code action of KIND at point, which has TITLE."
+  (let* ((place (eglot--pos-to-lsp-position))
+         (actions (ask :textDocument/codeAction :range (list :start place :end place) :context (list :diagnostics [] :only (vector kind)))))
+    (check title (plist-get (aref actions 0) :title) "the code action")
+    (eglot--apply-workspace-edit (plist-get (aref actions 0) :edit))))
+
+(defun run-across ()
+  "Go to another file, complete after `builtins.', and apply a code action."
+  (find-file "packages.nix")
+  (wait-for "a server" (lambda () (ignore-errors (eglot--current-server-or-lose))))
+  (go-to "example.nix")
+  (xref-find-definitions "./example.nix")
+  (check "example.nix" (file-name-nondirectory buffer-file-name) "the other file")
+  (check 2 (line-number-at-pos) "the parameters of the other file")
+
+  (find-file "packages.nix")
+  (go-to "attrNames")
+  (delete-char 9)
+  (let* ((found (append (plist-get (ask :textDocument/completion) :items) nil))
+         (item (seq-find (lambda (it) (equal (plist-get it :label) "mapAttrs")) found)))
+    (check "mapAttrs f attrset" (plist-get item :detail) "a function of builtins"))
+  (insert "attrNames")
+
+  (go-to "openssl")
+  (changed)
+  (act "Give `openssl` its own entry" "refactor.rewrite")
+  (go-to "    openssl = lib.openssl;")
+  (set-buffer-modified-p nil))
+
 (defun run ()
   (find-file "example.nix")
   (apply #'eglot (eglot--guess-contact))
@@ -45,7 +75,7 @@
   (go-to ";\n  archive")
   (delete-char 1)
   (changed)
-  (message-is "rnix [syntax-error]: expected \";\" after the value of \"version\", found \"=\"\nnote: \";\" is missing here, line 6")
+  (message-is "rnix [syntax-error]: expected \";\" after the value of \"version\", found \"=\"\nnote: \";\" is missing here, line 12")
   (insert ";")
   (changed)
   (message-is "rnix [unused-name]: `unused` is not used")
@@ -55,7 +85,7 @@
     (go-to ";\n  archive")
     (delete-char 1)
     (changed)
-    (message-is "rnix [syntax-error]: expected \";\" after the value of \"version\", found \"=\"\nnote: \";\" is missing here, line 6")
+    (message-is "rnix [syntax-error]: expected \";\" after the value of \"version\", found \"=\"\nnote: \";\" is missing here, line 12")
     (go-to "= \"hello-")
     (let* ((place (eglot--pos-to-lsp-position))
            (actions (ask :textDocument/codeAction :range (list :start place :end place) :context '(:diagnostics []))))
@@ -95,6 +125,7 @@
     (check (replace-regexp-in-string "pname=" "pname =" text t t) (buffer-string) "the formatted text"))
 
   (set-buffer-modified-p nil)
+  (run-across)
   (eglot-shutdown (eglot--current-server-or-lose)))
 
 (condition-case problem

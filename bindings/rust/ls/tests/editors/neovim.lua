@@ -1,4 +1,4 @@
--- Drives rnix-ls from Neovim: nvim --headless -S neovim.lua, beside a copy of example.nix, with an init.lua that starts rnix-ls.
+-- Drives rnix-ls from Neovim: nvim --headless -S neovim.lua, beside copies of example.nix and packages.nix, with an init.lua that starts rnix-ls.
 local function fail(message)
   io.stderr:write('neovim: ' .. message .. '\n')
   vim.cmd('cquit 1')
@@ -65,14 +65,48 @@ local function ask(method, params)
   return answer.result, answer.error
 end
 
--- Applies the first quick fix at a place.
-local function quick_fix(place, title)
+-- Applies the first code action at a place, which is of a kind.
+local function act(place, title, kind)
   go_to(place)
   local params = vim.lsp.util.make_range_params()
-  params.context = { diagnostics = {} }
+  params.context = { diagnostics = {}, only = { kind } }
   local actions = ask('codeAction', params)
-  check(title, actions[1] and actions[1].title, 'the quick fix')
+  check(title, actions[1] and actions[1].title, 'the code action')
   vim.lsp.util.apply_workspace_edit(actions[1].edit, 'utf-16')
+end
+
+local function quick_fix(place, title)
+  act(place, title, 'quickfix')
+end
+
+local function name_of_file()
+  return vim.fn.expand('%:t')
+end
+
+-- Another file: a definition there, what comes after `builtins.`, and a code action.
+local function run_across()
+  vim.cmd('edit packages.nix')
+  wait_for('client', function() return next(vim.lsp.buf_get_clients(0)) end)
+  go_to(places('example.nix')[1])
+  vim.lsp.buf.definition()
+  wait_for('file', function() return name_of_file() == 'example.nix' end)
+  check({ 1, 0 }, here(), 'the parameters of the other file')
+  vim.cmd('edit packages.nix')
+
+  go_to(places('attrNames')[1])
+  vim.cmd('normal! dw')
+  wait_for('change', function() return #places('builtins.{') == 1 end)
+  local params = vim.lsp.util.make_position_params()
+  local found = {}
+  for _, item in ipairs(ask('completion', params).items) do
+    found[item.label] = item.detail
+  end
+  check('mapAttrs f attrset', found.mapAttrs, 'a function of builtins')
+  vim.cmd('silent undo')
+
+  act(places('openssl')[1], 'Give `openssl` its own entry', 'refactor.rewrite')
+  check(1, #places('    openssl = lib.openssl;'), 'the entry')
+  vim.cmd('silent undo')
 end
 
 local function run()
@@ -122,7 +156,7 @@ local function run()
   check('with the new name, some name would refer to something else', refusal and refusal.message, 'the refusal')
 
   local hover = ask('hover', vim.lsp.util.make_position_params()).contents.value
-  check('A parameter, line 9', hover:match('A parameter.*'), 'the hover')
+  check('A parameter, line 15', hover:match('A parameter.*'), 'the hover')
 
   -- The quick fix for the unused name.
   quick_fix(places('unused')[1], 'Remove `unused`')
@@ -138,7 +172,9 @@ local function run()
   format()
   wait_for('formatting', function() return #places('pname=') == 0 end)
   check(text, lines(), 'the formatted text')
+  vim.cmd('silent write')
 
+  run_across()
   vim.lsp.stop_client(vim.lsp.get_active_clients())
   wait_for('end of the server', function() return #vim.lsp.get_active_clients() == 0 end)
 end

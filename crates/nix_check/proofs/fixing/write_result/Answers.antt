@@ -11,7 +11,6 @@ returns g c =
     λ text fixed. record {
       made = made;
       fixes = c.args.made.now.fixes;
-      errors = c.args.made.now.errors;
       fixed = fixed;
       mid = mid;
       line = c.in_ok-write_fixes.ensures;

@@ -11,8 +11,8 @@ returns g c =
     let new = g.W.Write.contents c.report_names.new.out in
     let few : length c.errors.result.now ≡ 0 = search rules in
     let none : read.faults ≡ [] = no_faults c.errors.result.now read.faults few c.errors.ensures in
-    IfOk-weaker c.report_names.result (AreReported c.args.is_json c.args.file.now c.args.text.now c.syntax.result start new)
-    (IsReported c.args.is_json c.args.file.now c.args.text.now start new)
-    (λ status own. text_reported c.args.is_json c.args.file.now c.args.text.now start new read.tree read.faults status c.in_ok-read.ensures none
-    (subst (λ (root : Located). AreReported c.args.is_json c.args.file.now c.args.text.now root start new status) c.syntax.ensures own))
+    IfOk-weaker c.report_names.result (AreReported c.args.options c.args.file.now c.args.text.now c.syntax.result start new)
+    (IsReported c.args.options c.args.file.now c.args.text.now start new)
+    (λ status own. text_reported c.args.options c.args.file.now c.args.text.now start new read.tree read.faults status c.in_ok-read.ensures none
+    (subst (λ (root : Located). AreReported c.args.options c.args.file.now c.args.text.now root start new status) c.syntax.ensures own))
     c.report_names.ensures

@@ -1,5 +1,4 @@
-use Rattle.std.proofs.{Common.{ℕ, List, subst, string_bytes, rules}, lemmas.Result.IfOk-weaker}
-use Rattle.nix_cli.specs.MessageLocations.{display_name}
+use Rattle.std.proofs.{Common.{ℕ, List, subst, rules}, lemmas.Result.IfOk-weaker}
 use Rattle.nix_dead.specs.Report.{IsReported, IsFileReported}
 use Rattle.nix_dead.proofs.ReportedNames.{file_reported}
 use Rattle.nix_dead.proofs.report.report_file.Goals as goal
@@ -10,9 +9,9 @@ returns-in-Some g c =
     let mid = g.W.Write.contents c.read_text.new.out in
     let new = g.W.Write.contents c.report.new.out in
     let text = c.as_str.result.now in
-    IfOk-weaker c.report.result (IsReported c.args.is_json c.display_name.result.now text mid new)
-    (IsFileReported c.args.is_json (g.R.TextReader.texts c.args.reader.now) c.args.file.now start new)
-    (λ status own. file_reported c.args.is_json (g.R.TextReader.texts c.args.reader.now) c.args.file.now text start mid new status (search rules)
+    IfOk-weaker c.report.result (IsReported c.args.options c.display_name.result.now text mid new)
+    (IsFileReported c.args.options (g.R.TextReader.texts c.args.reader.now) c.args.file.now start new)
+    (λ status own. file_reported c.args.options (g.R.TextReader.texts c.args.reader.now) c.args.file.now text start mid new status (search rules)
     c.read_text.ensures.kept
-    (subst (λ (file : List ℕ). IsReported c.args.is_json file text mid new status) c.display_name.ensures own))
+    (subst (λ (file : List ℕ). IsReported c.args.options file text mid new status) c.display_name.ensures own))
     c.report.ensures

@@ -1,4 +1,4 @@
-use Rattle.std.proofs.Common.{◌≡◌, ◌+◌, ℕ, List, [], map, take, subst, sym, string_bytes, arith}
+use Rattle.std.proofs.Common.{◌+◌, ℕ, List, [], map, take, subst, sym, string_bytes, arith}
 use Rattle.nix_cli.{specs.Statuses.{first_status, AreProcessed, none_processed}, proofs.ProcessedLemmas.processed_more}
 use Rattle.nix_dead.specs.Report.{IsFileReported}
 use Rattle.nix_dead.proofs.report.report_files.Goals as goal
@@ -6,7 +6,7 @@ use Rattle.nix_dead.proofs.report.report_files.Goals as goal
 pub loop-number-init : goal.loop-number-init
 loop-number-init g c =
     let start = g.W.Write.contents c.args.out.now in
-    let Effect = IsFileReported c.args.is_json (g.R.TextReader.texts c.args.reader.now) in
+    let Effect = IsFileReported c.args.options (g.R.TextReader.texts c.args.reader.now) in
     let first = first_status c.args.files.now.failed in
     subst (λ (status : ℕ). AreProcessed Effect first start [] start status) (sym c.status-status.ensures) none_processed
 
@@ -15,7 +15,7 @@ loop-number-preserved g c =
     let names = c.args.files.now.names.items in
     let i = c.loop-number.number in
     let start = g.W.Write.contents c.args.out.now in
-    let Effect = IsFileReported c.args.is_json (g.R.TextReader.texts c.args.reader.now) in
+    let Effect = IsFileReported c.args.options (g.R.TextReader.texts c.args.reader.now) in
     let mid = g.W.Write.contents c.loop-number.out in
     let new = g.W.Write.contents c.report_file.new.out in
     let first = first_status c.args.files.now.failed in

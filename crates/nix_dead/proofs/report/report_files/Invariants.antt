@@ -6,5 +6,5 @@ use Rattle.nix_dead.proofs.report.report_files.Given as goal
 -- the files so far are reported
 abbrev pub invariant-loop-number : goal.invariant-loop-number
 invariant-loop-number g l =
-    AreProcessed (IsFileReported l.is_json (g.R.TextReader.texts l.reader)) (first_status l.files.failed) (g.W.Write.contents l.fn.out)
+    AreProcessed (IsFileReported l.options (g.R.TextReader.texts l.reader)) (first_status l.files.failed) (g.W.Write.contents l.fn.out)
     (map string_bytes (take l.number l.files.names.items)) (g.W.Write.contents l.out) l.status

@@ -1,4 +1,4 @@
-use Rattle.std.proofs.{Common.{ℕ, List, subst}, KnownBytes.Keeps-refl, lemmas.Result.IfOk-weaker}
+use Rattle.std.proofs.{Common.{ℕ, List, inl, inr, subst}, KnownBytes.Keeps-refl, lemmas.Result.IfOk-weaker}
 use Rattle.std.specs.Prelude.{string_bytes}
 use Rattle.nix_formatting.specs.{Formatted.IsOutcome, declared.formatting.Formatting.Formatting}
 use Rattle.nix_format.specs.Outcomes.{IsFinished, IsTextFormatted, faulty, refused, formatted}
@@ -10,11 +10,24 @@ returns-in-Formatted g c =
     let text = c.args.text.now in
     let made = string_bytes c.in-Formatted.made in
     let start = g.W.Write.contents c.args.out.now in
-    let new = g.W.Write.contents c.finish.new.out in
-    IfOk-weaker c.finish.result (IsFinished c.args.task name text c.as_str.result.now start new) (IsTextFormatted c.args.task name text start new)
-    (λ outcome own. formatted made outcome (subst (λ (f : Formatting). IsOutcome text f) c.in-Formatted.is c.in_ok-made.ensures)
+    let new = g.W.Write.contents c.finish_text.new.out in
+    IfOk-weaker c.finish_text.result (IsFinished c.args.task name text c.as_str.result.now start new) (IsTextFormatted c.args.task name text start new)
+    (λ outcome own. formatted made outcome (inl (subst (λ (f : Formatting). IsOutcome text f) c.in-Formatted.is c.in_ok-made.ensures))
     (subst (λ (bytes : List ℕ). IsFinished c.args.task name text bytes start new outcome) c.as_str.ensures.value own))
-    c.finish.ensures
+    c.finish_text.ensures
+
+pub returns-in-Retokened : goal.returns-in-Retokened
+returns-in-Retokened g c =
+    let name = c.args.name.now in
+    let text = c.args.text.now in
+    let made = string_bytes c.in-Retokened.made in
+    let start = g.W.Write.contents c.args.out.now in
+    let new = g.W.Write.contents c.finish_text-in-Retokened.new.out in
+    IfOk-weaker c.finish_text-in-Retokened.result (IsFinished c.args.task name text c.as_str-in-Retokened.result.now start new)
+    (IsTextFormatted c.args.task name text start new)
+    (λ outcome own. formatted made outcome (inr (subst (λ (f : Formatting). IsOutcome text f) c.in-Retokened.is c.in_ok-made.ensures))
+    (subst (λ (bytes : List ℕ). IsFinished c.args.task name text bytes start new outcome) c.as_str-in-Retokened.ensures.value own))
+    c.finish_text-in-Retokened.ensures
 
 pub returns-in_ok-write_errors-in-HasErrors : goal.returns-in_ok-write_errors-in-HasErrors
 returns-in_ok-write_errors-in-HasErrors g c =

@@ -1,4 +1,4 @@
-use Rattle.std.proofs.{Common.rules, lemmas.Result.on_ok_weaker}
+use Rattle.std.proofs.{lemmas.Result.on_ok_weaker}
 use Rattle.nix_format.proofs.FinishedTexts.{check_printed, diff_printed, input_printed, text_printed}
 use Rattle.nix_format.proofs.file.write_change.Goals as goal
 

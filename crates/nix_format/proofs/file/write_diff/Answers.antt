@@ -1,4 +1,4 @@
-use Rattle.std.proofs.{Common.rules, lemmas.Result.on_ok_weaker}
+use Rattle.std.proofs.{lemmas.Result.on_ok_weaker}
 use Rattle.std.specs.Prelude.{string_bytes}
 use Rattle.nix_format.proofs.FinishedTexts.{same_diff, other_diff}
 use Rattle.nix_format.proofs.file.write_diff.Goals as goal

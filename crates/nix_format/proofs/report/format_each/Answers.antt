@@ -1,4 +1,4 @@
-use Rattle.std.proofs.Common.{◌≡◌, ℕ, ◌+◌, List, take, map, subst, sym, arith}
+use Rattle.std.proofs.Common.{ℕ, ◌+◌, List, take, map, subst, sym, arith}
 use Rattle.std.specs.{Prelude.string_bytes, Io.KnownBytes.Appends}
 use Rattle.nix_format.specs.declared.report.Tally.{Tally}
 use Rattle.nix_format.specs.Outcomes.{heading, IsFileFormatted, AreFormatted, none_formatted}

@@ -2,13 +2,13 @@ use Rattle.std.proofs.Common.{rules, ◌≡◌, ◌∙◌, Some, None, subst, sy
 use Rattle.std.proofs.lemmas.Option.{none-some, same_Some}
 use Rattle.rnix_green.specs.Tree.{item_of}
 use Rattle.rnix.specs.ParseResult.{root_of}
-use Rattle.nix_update.specs.Updated.{change_of, set_at, entry_at}
+use Rattle.nix_update.specs.Updated.{change_of, parent_at, member_at}
 use Rattle.{nix_scopes.specs.Alike.IsResolution, nix_update.specs.SameNames.HaveSameMeaning}
 use Rattle.nix_update.proofs.guard.difference_with.Goals as goal
 
 pub returns-in_default-clause-some : goal.returns-in_default-clause-some
 returns-in_default-clause-some c =
-    let none : entry_at (set_at (item_of c.args.set.now).start (root_of c.in_ok-read.read)) ≡ None = search rules in
+    let none : member_at (parent_at (item_of c.args.set.now).kind (item_of c.args.set.now).start (root_of c.in_ok-read.read)) ≡ None = search rules in
     record {
       read = c.in_ok-read.read;
       is_read = c.in_ok-read.ensures;
@@ -27,7 +27,8 @@ pub returns-in-Some-first_difference-clause-some : goal.returns-in-Some-first_di
 returns-in-Some-first_difference-clause-some c =
     let names = c.in_ok-names.names in
     let others = c.in_ok-others.others in
-    let own : entry_at (set_at (item_of c.args.set.now).start (root_of c.in_ok-read.read)) ≡ Some c.in-Some.entry = search rules in
+    let own : member_at (parent_at (item_of c.args.set.now).kind (item_of c.args.set.now).start (root_of c.in_ok-read.read)) ≡ Some c.in-Some.entry =
+    search rules in
     record {
       read = c.in_ok-read.read;
       is_read = c.in_ok-read.ensures;

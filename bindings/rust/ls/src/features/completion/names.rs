@@ -13,6 +13,9 @@ use std::collections::HashSet;
 
 const CONSTANT: usize = 21;
 
+/// What is shown of names that Nix binds and does not document.
+const OF_NIX: &str = "bound by Nix";
+
 /// Words of the language come after names, which have lower numbers.
 const LAST: usize = 9999;
 
@@ -86,11 +89,17 @@ fn kind_of_global(name: &str) -> usize {
 
 /// Returns the item of an attribute of `builtins`.
 pub fn item_of(builtin: &Builtin) -> Item {
-    let detail = builtin.signature.clone().unwrap_or_else(|| "bound by Nix".to_owned());
+    let detail = builtin.signature.clone().unwrap_or_else(|| OF_NIX.to_owned());
     Item {
         text: builtin.text.clone(),
         ..Item::new(&builtin.name, kind_of_global(&builtin.name), detail)
     }
+}
+
+// The item of a name that Nix binds in every text.
+fn item_of_global(name: &str) -> Item {
+    let unknown = || Item::new(name, kind_of_global(name), OF_NIX.to_owned());
+    builtin(name).map_or_else(unknown, item_of)
 }
 
 /// Returns the names in sight, each once: the innermost binding of each, and those of Nix.
@@ -114,9 +123,8 @@ pub fn items(request: &Request, place: &Scoped) -> Vec<Item> {
     }
     let globals = GLOBALS.iter().filter(|name| !seen.contains(**name));
     items.extend(globals.map(|name| Item {
-        text: builtin(name).and_then(|it| it.text.clone()),
         distance: distance + 1,
-        ..Item::new(name, kind_of_global(name), "bound by Nix".to_owned())
+        ..item_of_global(name)
     }));
     items
 }

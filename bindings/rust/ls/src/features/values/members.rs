@@ -49,7 +49,7 @@ impl<'a> Values<'a, '_> {
                 attribute.into_iter().collect()
             }
             Meaning::Arguments(part) => self.arguments(part),
-            Meaning::Inherited(_) | Meaning::Default(_) => self.all_of(self.next(meaning)),
+            Meaning::Inherited(_) | Meaning::Argument(_) => self.all_of(self.next(meaning)),
         }
     }
 
@@ -129,6 +129,20 @@ mod tests {
         assert_eq!(members("{ a ? { b = 1; } }: a"), ["b"]);
         assert_eq!(members("args@{ a, b ? 1, ... }: args"), ["a", "b"]);
         assert_eq!(members("a: a"), [""; 0]);
+    }
+
+    #[test]
+    fn sets_are_found_through_calls() {
+        assert_eq!(members("(a: a) { b = 1; }"), ["b"]);
+        assert_eq!(members("let f = x: x.a; in f { a = { b = 1; }; }"), ["b"]);
+        assert_eq!(members("let f = x: y: (y); in f 1 { b = 1; }"), ["b"]);
+        assert_eq!(
+            members("rec { f = { a, ... }: a; g = (f) { a = { b = 1; }; }; }.g"),
+            ["b"]
+        );
+        assert_eq!(members("let f = { a ? { b = 1; } }: a; in f { a.c = 1; }"), ["c", "b"]);
+        assert_eq!(members("let f = x: x; in [ (f { a = 1; }) ]"), [""; 0]);
+        assert_eq!(members("let f = x: f x; in f { a = 1; }"), [""; 0]);
     }
 
     #[test]

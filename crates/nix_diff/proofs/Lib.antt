@@ -1,0 +1,6 @@
+pub mod AppliedDiffs
+pub mod DiffLemmas
+pub mod DiffRows
+pub mod HunkLemmas
+pub mod PatchedLines
+pub mod HeaderLines

@@ -1,0 +1,4 @@
+pub mod Diff
+pub mod Applied
+pub mod Hunks
+pub mod Unified

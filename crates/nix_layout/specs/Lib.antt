@@ -1,0 +1,4 @@
+pub mod StoredNumbers
+pub mod Pieces
+pub mod Indentation
+pub mod Fitting
