@@ -335,7 +335,7 @@ static void check_codes(void) {
     static const char *const codes[] = {
         "syntax-error",  "nested-too-deep", "repeated-attribute", "foreign-space",        "unbound-name",   "dynamic-name",
         "large-integer", "called-data",     "bare-path",          "needless-parentheses", "manual-inherit", "unused-name",
-        "needless-with", "repeated-argument",
+        "needless-with", "repeated-argument", "empty-let",
     };
     const uint32_t count = sizeof codes / sizeof *codes;
     uint8_t name[32];

@@ -59,6 +59,8 @@ pub enum Code {
     NeedlessWith,
     /// A name of a whole pattern that is one of its arguments, too.
     RepeatedArgument,
+    /// A `let` without bindings.
+    EmptyLet,
 }
 
 impl Code {

@@ -18,7 +18,7 @@ pub struct Rule {
 }
 
 /// All codes.
-pub const CODES: [Code; 14] = [
+pub const CODES: [Code; 15] = [
     Code::SyntaxError,
     Code::NestedTooDeep,
     Code::RepeatedAttribute,
@@ -33,10 +33,11 @@ pub const CODES: [Code; 14] = [
     Code::UnusedName,
     Code::NeedlessWith,
     Code::RepeatedArgument,
+    Code::EmptyLet,
 ];
 
 /// The table, in the order of the codes: the code, its name, its severity, its title, its message and the note. Definitions cite it, and they cannot cite structs.
-pub(crate) const TABLE: [(Code, &str, Severity, &str, &str, &str); 14] = [
+pub(crate) const TABLE: [(Code, &str, Severity, &str, &str, &str); 15] = [
     (
         Code::SyntaxError,
         "syntax-error",
@@ -148,5 +149,13 @@ pub(crate) const TABLE: [(Code, &str, Severity, &str, &str, &str); 14] = [
         "A name of a pattern that is one of its arguments, too",
         "an argument of this pattern has the same name",
         "this is the argument",
+    ),
+    (
+        Code::EmptyLet,
+        "empty-let",
+        Severity::Warning,
+        "A let without bindings",
+        "this \"let\" binds nothing",
+        "leave it out",
     ),
 ];

@@ -10,6 +10,7 @@ pub mod UnusedNames
 pub mod DynamicName
 pub mod NeedlessWith
 pub mod RepeatedArgument
+pub mod EmptyLet
 pub mod Nodes
 pub mod Lints
 pub mod Words

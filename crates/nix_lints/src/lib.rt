@@ -5,6 +5,7 @@ mod all_lints;
 mod bare_path;
 mod called_data;
 mod dynamic_name;
+mod empty_let;
 mod finding;
 mod foreign;
 mod ignored;

@@ -11,6 +11,7 @@ ghost use Rattle.nix_lints.specs.Nodes.{lint_at, found_by_lint, found_at_nodes};
 use crate::bare_path::bare_path;
 use crate::called_data::called_data;
 use crate::dynamic_name::dynamic_name;
+use crate::empty_let::empty_let;
 use crate::finding::Finding;
 use crate::large_integer::large_integer;
 use crate::manual_inherit::manual_inherit;
@@ -72,6 +73,7 @@ fn lint_at(
         NODE_DYNAMIC => dynamic_name(alloc, node),
         NODE_STRING => dynamic_name(alloc, node),
         NODE_WITH => Ok(needless_with(places, node)),
+        NODE_LET_IN => Ok(empty_let(node)),
         NODE_PAT_BIND => Ok(repeated_argument(node)),
         _ => Ok(None),
     }
