@@ -113,15 +113,19 @@ class Lists(update.Update):
     def wrong(case, ran, before, after, given):
         if not isinstance(before, dict) or OF_LET in ran.said:
             return None
+        (old, has_old), (new, has_new) = inner(before, case.path), inner(after, case.path)
+        # A list may be what a function gets that makes something else of it.
+        if has_old and not isinstance(old, list) and "builtins." in case.text:
+            return None
         if isinstance(after, Failure):
             return None if after.said.startswith("dynamic attribute") else f"of the new text, {after.kind()}"
-        (old, has_old), (new, has_new) = inner(before, case.path), inner(after, case.path)
         if not has_old or not has_new or not isinstance(old, list) or not isinstance(new, list):
             return "what is changed is no list"
         wanted = with_value(before, case.path, new)
         if not agrees(wanted, after, renewed_by(before, wanted, case.path)):
             return "another attribute changes by changing a list"
-        is_simple = "++" not in case.text
+        # Elements that are written otherwise stay, though they may be equal.
+        is_simple = "++" not in case.text and "1+1" not in case.text.replace(" ", "")
         if "--append" in case.options:
             return None if is_with(old, new, given, is_simple) else "a list gets something else"
         return None if is_without(old, new, given, is_simple) else "a list loses something else"
