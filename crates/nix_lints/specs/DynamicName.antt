@@ -24,9 +24,9 @@ abbrev pub is_entry_of_let : Option Located → Bool
 is_entry_of_let None = false
 is_entry_of_let (Some entry) = same_kind (item_of entry).kind k.NODE_ATTRPATH_VALUE && is_kind_around k.NODE_LET_IN entry
 
--- a path is that of an entry of a `let`
+-- a node is the path of an entry of a `let`
 abbrev pub is_path_of_let : Located → Bool
-is_path_of_let path = is_entry_of_let (parent_of path)
+is_path_of_let path = same_kind (item_of path).kind k.NODE_ATTRPATH && is_entry_of_let (parent_of path)
 
 -- a name right below a node is one of an `inherit`, or begins the path of an entry of a `let`
 abbrev pub is_let_or_inherit_in : Option Located → Located → Bool

@@ -4,8 +4,9 @@ ghost use Rattle.std.specs.Prelude.{◌≡◌, option_map, is_none, true, IfOk};
 ghost use Rattle.rnix.specs.{AttrName.static_name, NodeKinds.is_attr};
 ghost use Rattle.rnix.specs.Sums.{attr_node};
 ghost use Rattle.rnix_green.specs.Tree.{item_of};
+ghost use Rattle.rnix_green.specs.Relatives.{parent_of};
 ghost use Rattle.nix_lints.specs.Found.{found_of};
-ghost use Rattle.nix_lints.specs.DynamicName.{is_same_node, is_kind_around, is_path_of_let, is_let_or_inherit, dynamic_name};
+ghost use Rattle.nix_lints.specs.DynamicName.{is_same_node, is_kind_around, is_entry_of_let, is_path_of_let, is_let_or_inherit, dynamic_name};
 
 use crate::finding::Finding;
 use SyntaxKind::*;
@@ -35,14 +36,21 @@ fn is_kind_around(node: &SyntaxNode<'_>, kind: SyntaxKind) -> bool
     }
 }
 
-// Returns whether a path is that of an entry of a `let`.
-fn is_path_of_let(path: &SyntaxNode<'_>) -> bool
-    ensures { result ≡ is_path_of_let path.now }
+// Returns whether the node around a node is an entry of a `let`.
+fn is_in_entry_of_let(node: &SyntaxNode<'_>) -> bool
+    ensures { result ≡ is_entry_of_let (parent_of node.now) }
 {
-    match path.parent() {
+    match node.parent() {
         Some(entry) => entry.kind() == NODE_ATTRPATH_VALUE && is_kind_around(&entry, NODE_LET_IN),
         None => false,
     }
+}
+
+// Returns whether a node is the path of an entry of a `let`.
+fn is_path_of_let(path: &SyntaxNode<'_>) -> bool
+    ensures { result ≡ is_path_of_let path.now }
+{
+    path.kind() == NODE_ATTRPATH && is_in_entry_of_let(path)
 }
 
 // Returns whether a name is one of an `inherit`, or begins the path of an entry of a `let`.
